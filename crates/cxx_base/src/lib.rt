@@ -1,0 +1,21 @@
+//! What every layer of the translator speaks of: places and spans in a source text, bytes,
+//! limits and step counts, kinds and operators of whole numbers, and refusals.
+#![tactic(auto)]
+
+mod bytes;
+mod limits;
+mod memory;
+mod number;
+mod operator;
+mod place;
+mod refusal;
+mod ticks;
+
+pub use bytes::Bytes;
+pub use limits::{Limits, MAX_IDENTIFIER, MAX_PIECES, MAX_SOURCE};
+pub use memory::Memory;
+pub use number::{EntityNo, PieceNo, ScopeNo};
+pub use operator::{CompareOp, IntKind, IntOp};
+pub use place::{Place, Span};
+pub use refusal::{Code, Refusal};
+pub use ticks::Ticks;

@@ -1,0 +1,40 @@
+//! A count of steps.
+
+ghost use Rattle.std.specs.Prelude.{◌≡◌, ◌+◌, ◌^◌, ◌<◌};
+
+use std::marker::Model;
+
+/// How many steps were used. Contracts see the number.
+#[derive(Debug, Drop)]
+pub struct Ticks {
+    count: u64,
+}
+
+impl Model for Ticks {
+    ghost use Rattle.std.specs.Prelude.{ℕ};
+
+    ghost Value = { ℕ };
+
+    ghost view = { λ t. t.count };
+}
+
+impl Ticks {
+    pub fn new() -> Ticks
+        ensures { result ≡ 0 }
+    {
+        Ticks { count: 0 }
+    }
+
+    pub fn add(&mut self, n: u64)
+        requires { self.old + n < 2 ^ 64 }
+        ensures { self.new ≡ self.old + n }
+    {
+        self.count += n;
+    }
+
+    pub fn count(&self) -> u64
+        ensures { result ≡ self.now }
+    {
+        self.count
+    }
+}
