@@ -1,0 +1,4 @@
+pub mod Ascii
+pub mod Fronted
+pub mod Longest
+pub mod Turning

@@ -1,0 +1,5 @@
+pub mod Lex
+pub mod Characters
+pub mod Fronts
+pub mod Gives
+pub mod Turns
