@@ -1,0 +1,4 @@
+pub mod Division
+pub mod Kind
+pub mod Operate
+pub mod Unspecified
