@@ -202,6 +202,7 @@ pub fn tokens(alloc: Global, names: &mut Names, bytes: &[u8]) -> Result<Tokens, 
     requires short { length bytes.now ≤ 4194304 }
     requires room { length names.old < 2 ^ 23 }
     ensures tokens { GivesTokens result names.new (spec.lex names.old bytes.now) }
+    ensures few { IfOk result (λ found. length found.list ≤ length bytes.now) }
     ensures kept { Keeps names.old names.new }
 {
     let mut list = Items::new(alloc);
