@@ -1,0 +1,4 @@
+pub mod Edge
+pub mod Gather
+pub mod MemoryObjects
+pub mod Adapters
