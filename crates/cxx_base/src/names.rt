@@ -33,7 +33,8 @@ impl Model for Names {
 impl Names {
     /// The names of the library.
     pub fn new(alloc: Global) -> Result<Names, Memory>
-        ensures { IfOk result (λ names. names ≡ library_names) }
+        ensures names { IfOk result (λ names. names ≡ library_names) }
+        ensures few { IfOk result (λ names. length names ≤ 69) }
     {
         let mut names = Names {
             texts: IndexSet::new(alloc),
@@ -44,7 +45,8 @@ impl Names {
 
     fn number_each(&mut self, texts: &[&str]) -> Result<(), Memory>
         requires { length self.old + length texts.now ≤ 2 ^ 24 }
-        ensures { OnOk result (self.new ≡ with_texts self.old (map (λ text. text.now) texts.now)) }
+        ensures names { OnOk result (self.new ≡ with_texts self.old (map (λ text. text.now) texts.now)) }
+        ensures few { length self.new ≤ length self.old + length texts.now }
     {
         for text in texts {
             self.number(text)?;
