@@ -1,0 +1,4 @@
+pub mod Forms
+pub mod Links
+pub mod WholeSource
+pub mod Turns

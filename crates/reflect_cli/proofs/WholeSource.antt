@@ -1,0 +1,24 @@
+-- How far a source was read, and what is told of one that is too long.
+use Rattle.std.proofs.Common.{◌≡◌, ℕ, ◌+◌, ◌≤◌, ◌<◌, List, [], length, drop, Option, None, Some, IfSome, sym, ◌∙◌, subst, ap, cond, arith}
+use Rattle.std.proofs.Math.ListN.{drop_of_length-le}
+use Rattle.std.proofs.lemmas.Bool.{lt-ltb}
+use Rattle.std.specs.Io.KnownBytes.{IsAtEnd}
+use Rattle.io_edge.specs.Edge.{Drops, TellsOn}
+use Rattle.cxx_base.specs.declared.refusal.Code.TheVariants.{L6}
+use Rattle.reflect_cli.specs.Answers.{IsTold}
+use Rattle.reflect_cli.specs.Program.{program_of, whole}
+use Rattle.reflect_cli.specs.Told.{report_of, refused, answer_by}
+use Rattle.reflect_cli.specs.declared.answer.Answer.{Answer}
+
+-- a source that is read to its end and was not longer
+pub drops_all : (cap : ℕ) (old new : Option (List ℕ)) → TellsOn old new → IsAtEnd new → IfSome old (λ xs. length xs ≤ cap) → Drops old new (cap + 1)
+drops_all cap None new tells end short = tt
+drops_all cap (Some xs) None tells end short = absurd tells
+drops_all cap (Some xs) (Some ys) tells end short = end ∙ sym (drop_of_length-le xs (omega (arith, short)))
+
+-- a source that is too long
+pub too_long : (old : Option (List ℕ)) (answer : Answer) → IfSome old (λ xs. 4194304 < length xs) → IsTold (refused (whole L6)) answer
+    → IfSome old (λ xs. IsTold (report_of xs) answer)
+unfolding report_of
+too_long None answer long told = tt
+too_long (Some xs) answer long told = rw (lt-ltb 4194304 (length xs) long) told

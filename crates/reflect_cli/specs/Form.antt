@@ -1,0 +1,29 @@
+-- The accepted form: what a list of declarations meets beside the grammar.
+use Rattle.std.specs.Prelude.{ℕ, ◌+◌, Bool, true, false, not, ◌&&◌, ◌==◌, nat_le, List, [], ◌∷◌, ◌++◌, length, map, sum_by}
+use Rattle.std.specs.List.{list_all, list_any}
+use Rattle.reflect_cli.specs.declared.cxx_tree.Chain.{Chain}
+use Rattle.reflect_cli.specs.declared.cxx_tree.Literal.{Literal}
+use Rattle.reflect_cli.specs.declared.cxx_tree.Declaration.{Declaration}
+
+-- how many literals a tree has
+abbrev pub product_size : Chain Literal → ℕ
+product_size product = 1 + length product.rest
+
+abbrev pub sum_size : Chain (Chain Literal) → ℕ
+sum_size sum = product_size sum.first + sum_by (λ link. product_size link.operand) sum.rest
+
+-- The name is not `std`, the first of the names of the library, and there are at most 256 literals.
+abbrev pub fits : Declaration → Bool
+fits declaration = not (declaration.name.0 == 0) && nat_le (sum_size declaration.initializer) 256
+
+-- no name is one of those before it
+abbrev pub are_new : List ℕ → List ℕ → Bool
+are_new before [] = true
+are_new before (name ∷ names) = not (list_any (λ other. name == other) before) && are_new (before ++ name ∷ []) names
+
+abbrev pub names_in : List Declaration → List ℕ
+names_in declarations = map (λ declaration. declaration.name.0) declarations
+
+-- at most 65,536 declarations, which fit, of different names
+unfoldable pub is_in_form : List Declaration → Bool
+is_in_form declarations = nat_le (length declarations) 65536 && (list_all fits declarations && are_new [] (names_in declarations))

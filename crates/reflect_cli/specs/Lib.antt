@@ -1,0 +1,10 @@
+pub mod Grammar
+pub mod Gives
+pub mod Form
+pub mod Values
+pub mod Order
+pub mod Texts
+pub mod Report
+pub mod Program
+pub mod Told
+pub mod Answers

@@ -1,0 +1,24 @@
+-- Translation in order: each piece has the outcome of its declaration.
+use Rattle.std.specs.Prelude.{ℕ, Some, Result, Ok, Err}
+use Rattle.cxx_base.specs.declared.refusal.Code.TheVariants.{V1}
+use Rattle.int_kinds.specs.declared.fault.ArithFault.{ArithFault}
+use Rattle.int_kinds.specs.declared.fault.ArithFault.TheVariants.{Overflow, ZeroDivisor, LeastByMinusOne, ShiftCount}
+use Rattle.reflect_cli.specs.Values.{Evaluated, sum_value, sum_place}
+use Rattle.reflect_cli.specs.declared.core_tree.Outcome.{Outcome}
+use Rattle.reflect_cli.specs.declared.core_tree.Outcome.TheVariants.{Constant, Refused}
+use Rattle.reflect_cli.specs.declared.cxx_tree.Declaration.{Declaration}
+
+-- the number of a fault among those of V1
+abbrev pub detail_of : ArithFault → ℕ
+detail_of Overflow = 0
+detail_of ZeroDivisor = 1
+detail_of LeastByMinusOne = 2
+detail_of ShiftCount = 3
+
+abbrev pub outcome_by : Declaration → Evaluated → Outcome
+outcome_by declaration (Ok value) = Constant declaration.name value
+outcome_by declaration (Err refused) =
+    Refused (record { code = V1; detail = detail_of refused.fault; place = sum_place declaration.initializer; inner = Some refused.place })
+
+abbrev pub outcome_of : Declaration → Outcome
+outcome_of declaration = outcome_by declaration (sum_value declaration.initializer)

@@ -1,0 +1,92 @@
+//! The full text that the program writes, and its status.
+
+ghost use Rattle.std.specs.Prelude.{◌≡◌, ◌≤◌, ◌++◌, Some, IfOk, length, if◌then◌else◌};
+ghost use Rattle.std.specs.List.{flat_map, count_by};
+ghost use Rattle.reflect_cli.specs.Answers.{IsTold};
+ghost use Rattle.reflect_cli.specs.Report as report;
+ghost use Rattle.reflect_cli.specs.Told as spec;
+
+use crate::core_tree::Outcome;
+use crate::piece_order::translate_in_order;
+use crate::program::{Program, ProgramFault, program_of, whole};
+use crate::report_print::{append_last, append_outcome, append_refusal};
+use cxx_base::{Bytes, Code, Memory, Names, Refusal};
+use std::alloc::Global;
+
+/// A text, and whether it refuses something.
+#[derive(Drop)]
+pub struct Answer {
+    pub text: Bytes,
+    pub is_refused: bool,
+}
+
+impl Answer {
+    /// The status with which the program ends once the text is written.
+    pub fn status(&self) -> u8
+        ensures status { result ≡ (if self.now.is_refused then 1 else 0) }
+        ensures success { result ≤ 1 }
+    {
+        if self.is_refused { 1 } else { 0 }
+    }
+}
+
+/// The answer to a source that is refused as a whole.
+pub fn refused(alloc: Global, refusal: Refusal) -> Result<Answer, Memory>
+    ensures { IfOk result (IsTold (spec.refused refusal)) }
+{
+    let mut text = Bytes::new(alloc);
+    append_refusal(&mut text, &refusal)?;
+    Ok(Answer {
+        text,
+        is_refused: true,
+    })
+}
+
+fn append_outcomes(out: &mut Bytes, names: &Names, outcomes: &[Outcome]) -> Result<u32, Memory>
+    requires { length outcomes.now ≤ 65536 }
+    ensures text { IfOk result (λ _. out.new ≡ out.old ++ flat_map (report.outcome_line names.now) outcomes.now) }
+    ensures refused { IfOk result (λ n. n ≡ count_by report.is_refused outcomes.now) }
+{
+    let mut refused = 0;
+    for outcome in outcomes {
+        append_outcome(out, names, outcome)?;
+        if let Outcome::Refused(_) = outcome {
+            refused += 1;
+        }
+    }
+    Ok(refused)
+}
+
+fn translated(alloc: Global, names: &Names, outcomes: &[Outcome]) -> Result<Answer, Memory>
+    requires { length outcomes.now ≤ 65536 }
+    ensures { IfOk result (IsTold (spec.translated names.now outcomes.now)) }
+{
+    let mut text = Bytes::new(alloc);
+    let refused = append_outcomes(&mut text, names, outcomes)?;
+    append_last(&mut text, outcomes.len() as u32, refused)?;
+    Ok(Answer {
+        text,
+        is_refused: refused > 0,
+    })
+}
+
+fn translate(alloc: Global, program: &Program) -> Result<Answer, Memory>
+    requires { length program.now.declarations ≤ 65536 }
+    ensures { IfOk result (IsTold (spec.answer_by (Some program.now))) }
+{
+    let outcomes = translate_in_order(alloc, program.declarations.as_slice())?;
+    translated(alloc, &program.names, outcomes.as_slice())
+}
+
+/// The answer to a source that is no longer than it may be.
+#[tactic(auto, unfolding(crate::specs::Told::report_of))]
+pub fn answer_to(alloc: Global, bytes: &[u8]) -> Result<Answer, Memory>
+    requires { length bytes.now ≤ 4194304 }
+    ensures { IfOk result (IsTold (spec.report_of bytes.now)) }
+{
+    match program_of(alloc, bytes) {
+        Ok(program) => translate(alloc, &program),
+        Err(ProgramFault::Refused(refusal)) => refused(alloc, refusal),
+        Err(ProgramFault::Memory) => Err(Memory),
+    }
+}

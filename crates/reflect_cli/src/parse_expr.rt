@@ -1,0 +1,277 @@
+//! The parser of expressions.
+
+ghost use Rattle.std.specs.Prelude.{◌≡◌, ◌+◌, ◌<◌, ◌^◌, length, IfOk, slice_get, option_copied};
+ghost use Rattle.reflect_cli.specs.Gives.{Gives, GivesMany, Passes};
+ghost use Rattle.reflect_cli.specs.Grammar as spec;
+
+use crate::cxx_tree::{Arithmetic, Chain, Link, Literal, Product, Sum};
+use cxx_base::{Name, Place};
+use cxx_tokens::{MINUS, PERCENT, PLUS, SLASH, STAR, Token, TokenKind};
+use sqlite_items::Items;
+use std::alloc::{AllocError, Global};
+
+/// Why no tree is read.
+#[derive(Clone, Copy, Debug, PartialEq, Eq)]
+pub enum ParseFault {
+    /// None begins here.
+    Syntax,
+    Memory,
+}
+
+impl From<AllocError> for ParseFault {
+    ghost use Rattle.reflect_cli.specs.declared.parse_expr.ParseFault.TheVariants.{Memory};
+
+    ghost from_gives = { λ _ e. e ≡ Memory };
+
+    fn from(_refused: AllocError) -> ParseFault {
+        ParseFault::Memory
+    }
+}
+
+fn is_word(kind: TokenKind, word: u32) -> bool
+    ensures { result ≡ spec.is_word word kind }
+{
+    match kind {
+        TokenKind::Word(n) => n == word,
+        TokenKind::Identifier(_) | TokenKind::Punctuator(_) | TokenKind::Integer { .. } => false,
+    }
+}
+
+fn is_mark(kind: TokenKind, mark: u32) -> bool
+    ensures { result ≡ spec.is_mark mark kind }
+{
+    match kind {
+        TokenKind::Punctuator(n) => n == mark,
+        TokenKind::Identifier(_) | TokenKind::Word(_) | TokenKind::Integer { .. } => false,
+    }
+}
+
+fn name_of(kind: TokenKind) -> Option<Name>
+    ensures { result ≡ spec.name_of kind }
+{
+    match kind {
+        TokenKind::Identifier(name) => Some(name),
+        TokenKind::Word(_) | TokenKind::Punctuator(_) | TokenKind::Integer { .. } => None,
+    }
+}
+
+fn literal_of(place: Place, kind: TokenKind) -> Option<Literal>
+    ensures { result ≡ spec.literal_of place kind }
+{
+    match kind {
+        TokenKind::Integer {
+            decimal: _,
+            unsigned,
+            longs,
+            n,
+        } => {
+            if !unsigned && longs == 0 && n <= 2_147_483_647 {
+                Some(Literal {
+                    place,
+                    value: n as i32,
+                })
+            } else {
+                None
+            }
+        }
+        TokenKind::Identifier(_) | TokenKind::Word(_) | TokenKind::Punctuator(_) => None,
+    }
+}
+
+fn multiplicative(kind: TokenKind) -> Option<Arithmetic>
+    ensures { result ≡ spec.operator_of spec.multiplicative kind }
+{
+    match kind {
+        TokenKind::Punctuator(STAR) => Some(Arithmetic::Mul),
+        TokenKind::Punctuator(SLASH) => Some(Arithmetic::Div),
+        TokenKind::Punctuator(PERCENT) => Some(Arithmetic::Rem),
+        TokenKind::Punctuator(_) => None,
+        TokenKind::Identifier(_) | TokenKind::Word(_) | TokenKind::Integer { .. } => None,
+    }
+}
+
+fn additive(kind: TokenKind) -> Option<Arithmetic>
+    ensures { result ≡ spec.operator_of spec.additive kind }
+{
+    match kind {
+        TokenKind::Punctuator(PLUS) => Some(Arithmetic::Add),
+        TokenKind::Punctuator(MINUS) => Some(Arithmetic::Sub),
+        TokenKind::Punctuator(_) => None,
+        TokenKind::Identifier(_) | TokenKind::Word(_) | TokenKind::Integer { .. } => None,
+    }
+}
+
+/// Passes a word.
+pub fn word_at(tokens: &[Token], word: u32, at: u32) -> Result<u32, ParseFault>
+    requires { length tokens.now < 2 ^ 32 }
+    ensures { Passes (spec.word tokens.now word at) result }
+{
+    match tokens.get(at as usize) {
+        Some(token) => {
+            if is_word(token.kind, word) {
+                Ok(at + 1)
+            } else {
+                Err(ParseFault::Syntax)
+            }
+        }
+        None => Err(ParseFault::Syntax),
+    }
+}
+
+/// Passes a punctuator.
+pub fn mark_at(tokens: &[Token], mark: u32, at: u32) -> Result<u32, ParseFault>
+    requires { length tokens.now < 2 ^ 32 }
+    ensures { Passes (spec.mark tokens.now mark at) result }
+{
+    match tokens.get(at as usize) {
+        Some(token) => {
+            if is_mark(token.kind, mark) {
+                Ok(at + 1)
+            } else {
+                Err(ParseFault::Syntax)
+            }
+        }
+        None => Err(ParseFault::Syntax),
+    }
+}
+
+/// An identifier.
+pub fn identifier_at(tokens: &[Token], at: u32) -> Result<(Name, u32), ParseFault>
+    requires { length tokens.now < 2 ^ 32 }
+    ensures { Gives (spec.identifier tokens.now at) result }
+{
+    match tokens.get(at as usize) {
+        Some(token) => match name_of(token.kind) {
+            Some(name) => Ok((name, at + 1)),
+            None => Err(ParseFault::Syntax),
+        },
+        None => Err(ParseFault::Syntax),
+    }
+}
+
+fn literal_at(tokens: &[Token], at: u32) -> Result<(Literal, u32), ParseFault>
+    requires { length tokens.now < 2 ^ 32 }
+    ensures { Gives (spec.literal tokens.now at) result }
+{
+    match tokens.get(at as usize) {
+        Some(token) => match literal_of(token.span.place, token.kind) {
+            Some(literal) => Ok((literal, at + 1)),
+            None => Err(ParseFault::Syntax),
+        },
+        None => Err(ParseFault::Syntax),
+    }
+}
+
+fn multiplicative_at(tokens: &[Token], at: u32) -> Result<(Arithmetic, u32), ParseFault>
+    requires { length tokens.now < 2 ^ 32 }
+    ensures { Gives (spec.operator tokens.now spec.multiplicative at) result }
+{
+    match tokens.get(at as usize) {
+        Some(token) => match multiplicative(token.kind) {
+            Some(operator) => Ok((operator, at + 1)),
+            None => Err(ParseFault::Syntax),
+        },
+        None => Err(ParseFault::Syntax),
+    }
+}
+
+fn additive_at(tokens: &[Token], at: u32) -> Result<(Arithmetic, u32), ParseFault>
+    requires { length tokens.now < 2 ^ 32 }
+    ensures { Gives (spec.operator tokens.now spec.additive at) result }
+{
+    match tokens.get(at as usize) {
+        Some(token) => match additive(token.kind) {
+            Some(operator) => Ok((operator, at + 1)),
+            None => Err(ParseFault::Syntax),
+        },
+        None => Err(ParseFault::Syntax),
+    }
+}
+
+#[tactic(auto, unfolding(crate::specs::Grammar::factor))]
+fn factor_at(tokens: &[Token], at: u32) -> Result<(Link<Literal>, u32), ParseFault>
+    requires { length tokens.now < 2 ^ 32 }
+    ensures { Gives (spec.factor tokens.now at) result }
+{
+    let (operator, at) = multiplicative_at(tokens, at)?;
+    let (operand, at) = literal_at(tokens, at)?;
+    Ok((Link { operator, operand }, at))
+}
+
+fn factors_at(
+    alloc: Global,
+    tokens: &[Token],
+    start: u32,
+) -> Result<(Items<Link<Literal>>, u32), ParseFault>
+    requires { length tokens.now < 2 ^ 32 }
+    ensures { GivesMany (spec.many (length tokens.now) (spec.factor tokens.now) start) result }
+{
+    let mut found = Items::new(alloc);
+    let mut at = start;
+    for _turn in 0..tokens.len() {
+        match factor_at(tokens, at) {
+            Ok((link, next)) => {
+                found.push(link)?;
+                at = next;
+            }
+            Err(ParseFault::Syntax) => return Ok((found, at)),
+            Err(ParseFault::Memory) => return Err(ParseFault::Memory),
+        }
+    }
+    Ok((found, at))
+}
+
+/// A multiplicative-expression ([expr.mul]).
+#[tactic(auto, unfolding(crate::specs::Grammar::product))]
+fn product_at(alloc: Global, tokens: &[Token], at: u32) -> Result<(Product, u32), ParseFault>
+    requires { length tokens.now < 2 ^ 32 }
+    ensures { Gives (spec.product tokens.now at) result }
+{
+    let (first, at) = literal_at(tokens, at)?;
+    let (rest, at) = factors_at(alloc, tokens, at)?;
+    Ok((Chain { first, rest }, at))
+}
+
+#[tactic(auto, unfolding(crate::specs::Grammar::term))]
+fn term_at(alloc: Global, tokens: &[Token], at: u32) -> Result<(Link<Product>, u32), ParseFault>
+    requires { length tokens.now < 2 ^ 32 }
+    ensures { Gives (spec.term tokens.now at) result }
+{
+    let (operator, at) = additive_at(tokens, at)?;
+    let (operand, at) = product_at(alloc, tokens, at)?;
+    Ok((Link { operator, operand }, at))
+}
+
+fn terms_at(
+    alloc: Global,
+    tokens: &[Token],
+    start: u32,
+) -> Result<(Items<Link<Product>>, u32), ParseFault>
+    requires { length tokens.now < 2 ^ 32 }
+    ensures { GivesMany (spec.many (length tokens.now) (spec.term tokens.now) start) result }
+{
+    let mut found = Items::new(alloc);
+    let mut at = start;
+    for _turn in 0..tokens.len() {
+        match term_at(alloc, tokens, at) {
+            Ok((link, next)) => {
+                found.push(link)?;
+                at = next;
+            }
+            Err(ParseFault::Syntax) => return Ok((found, at)),
+            Err(ParseFault::Memory) => return Err(ParseFault::Memory),
+        }
+    }
+    Ok((found, at))
+}
+
+/// An additive-expression ([expr.add]).
+#[tactic(auto, unfolding(crate::specs::Grammar::sum))]
+pub fn sum_at(alloc: Global, tokens: &[Token], at: u32) -> Result<(Sum, u32), ParseFault>
+    requires { length tokens.now < 2 ^ 32 }
+    ensures { Gives (spec.sum tokens.now at) result }
+{
+    let (first, at) = product_at(alloc, tokens, at)?;
+    let (rest, at) = terms_at(alloc, tokens, at)?;
+    Ok((Chain { first, rest }, at))
+}

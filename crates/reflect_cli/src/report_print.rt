@@ -1,0 +1,108 @@
+//! The lines of the report.
+
+ghost use Rattle.std.specs.Prelude.{◌≡◌, ◌++◌, OnOk, decimal};
+ghost use Rattle.std.specs.Fmt.{signed_decimal};
+ghost use Rattle.reflect_cli.specs.Report as spec;
+
+use crate::core_tree::Outcome;
+use crate::diagnostics::{name, text};
+use cxx_base::{Bytes, Memory, Name, Names, Place, Refusal};
+use itoa::Buffer;
+
+fn append_text(out: &mut Bytes, text: &str) -> Result<(), Memory>
+    ensures { OnOk result (out.new ≡ out.old ++ text.now) }
+{
+    out.extend(text.as_bytes())
+}
+
+fn append_number(out: &mut Bytes, number: u32) -> Result<(), Memory>
+    ensures { OnOk result (out.new ≡ out.old ++ decimal number) }
+{
+    let mut buffer = Buffer::new();
+    append_text(out, buffer.format(number))
+}
+
+fn append_value(out: &mut Bytes, value: i128) -> Result<(), Memory>
+    ensures { OnOk result (out.new ≡ out.old ++ signed_decimal value) }
+{
+    let mut buffer = Buffer::new();
+    append_text(out, buffer.format(value))
+}
+
+fn append_place(out: &mut Bytes, place: Place) -> Result<(), Memory>
+    ensures { OnOk result (out.new ≡ out.old ++ spec.place_text place) }
+{
+    append_number(out, place.line)?;
+    append_text(out, ":")?;
+    append_number(out, place.column)
+}
+
+fn append_inner(out: &mut Bytes, inner: Option<Place>) -> Result<(), Memory>
+    ensures { OnOk result (out.new ≡ out.old ++ spec.inner_text inner) }
+{
+    match inner {
+        None => Ok(()),
+        Some(place) => {
+            append_text(out, " (at ")?;
+            append_place(out, place)?;
+            append_text(out, ")")
+        }
+    }
+}
+
+/// The line of a refusal.
+#[tactic(auto, unfolding(crate::specs::Report::refusal_line))]
+pub fn append_refusal(out: &mut Bytes, refusal: &Refusal) -> Result<(), Memory>
+    ensures { OnOk result (out.new ≡ out.old ++ spec.refusal_line refusal.now) }
+{
+    append_place(out, refusal.place)?;
+    append_text(out, ": error ")?;
+    append_text(out, name(refusal.code))?;
+    append_text(out, ": ")?;
+    append_text(out, text(refusal))?;
+    append_inner(out, refusal.inner)?;
+    append_text(out, "\n")
+}
+
+fn name_text(names: &Names, name: Name) -> &str
+    ensures { result.now ≡ spec.name_text names.now name }
+{
+    if name.0 < names.len() {
+        names.text(name)
+    } else {
+        ""
+    }
+}
+
+#[tactic(auto, unfolding(crate::specs::Report::constant_line))]
+fn append_constant(out: &mut Bytes, names: &Names, name: Name, value: i128) -> Result<(), Memory>
+    ensures { OnOk result (out.new ≡ out.old ++ spec.constant_line names.now name value) }
+{
+    append_text(out, "const ")?;
+    append_text(out, name_text(names, name))?;
+    append_text(out, " : const int = ")?;
+    append_value(out, value)?;
+    append_text(out, "\n")
+}
+
+/// The lines of an outcome.
+pub fn append_outcome(out: &mut Bytes, names: &Names, outcome: &Outcome) -> Result<(), Memory>
+    ensures { OnOk result (out.new ≡ out.old ++ spec.outcome_line names.now outcome.now) }
+{
+    match outcome {
+        Outcome::Constant { name, value } => append_constant(out, names, *name, *value),
+        Outcome::Refused(refusal) => append_refusal(out, refusal),
+    }
+}
+
+/// The last line: how many pieces there are, and how many of them are refused.
+#[tactic(auto, unfolding(crate::specs::Report::last_line))]
+pub fn append_last(out: &mut Bytes, pieces: u32, refused: u32) -> Result<(), Memory>
+    ensures { OnOk result (out.new ≡ out.old ++ spec.last_line pieces refused) }
+{
+    append_text(out, "pieces ")?;
+    append_number(out, pieces)?;
+    append_text(out, " refused ")?;
+    append_number(out, refused)?;
+    append_text(out, "\n")
+}
