@@ -1,6 +1,6 @@
 //! The top call.
 
-ghost use Rattle.std.specs.Prelude.{◌≡◌, ◌+◌, ◌≤◌, ◌≢◌, ◌↔◌, true, false, IfOk, IfSome, IsErrOf, IsSomeAnd};
+ghost use Rattle.std.specs.Prelude.{◌≡◌, ◌+◌, ◌≤◌, ◌≢◌, ◌↔◌, ◌⊎◌, true, false, IfOk, IfSome, IsErrOf, IsSomeAnd};
 ghost use Rattle.std.specs.Io.KnownBytes.{Appends};
 ghost use Rattle.io_edge.specs.Edge.{AppendsPrefix, Drops, LosesPrefix, Rose};
 ghost use Rattle.reflect_cli.specs.Answers.{IsTold};
@@ -79,8 +79,11 @@ pub fn run_in_order<S: Source, K: Sink>(
     ensures prefix { 4 ≤ result → IfSome (S.left source.old) (λ xs. IsSomeAnd (told words.now xs) (λ answer.
         AppendsPrefix (K.held sink.old) (K.held sink.new) answer.text)) }
 
-    // There is no other answer.
+    // There is no other answer, so where the words are in the grammar and neither device failed, the text that is told was
+    // written with its status, unless memory ran out.
     ensures statuses { result ≤ 5 }
+    ensures complete { is_in_grammar words.now ≡ true → ¬ Rose (S.faults source.old) (S.faults source.new)
+        → ¬ Rose (K.faults sink.old) (K.faults sink.new) → (result ≤ 1) ⊎ (result ≡ 5) }
     ensures source_count { S.faults source.old ≤ S.faults source.new }
     ensures sink_count { K.faults sink.old ≤ K.faults sink.new }
 {

@@ -1,0 +1,312 @@
+//! Tests of the top call over sources and sinks in memory.
+
+use crate::run::run_in_order;
+use crate::words::Words;
+use cxx_base::{Bytes, MAX_SOURCE, Memory};
+use io_edge::{CallList, MemSink, MemSource};
+use std::alloc::Global;
+use std::test::Fail;
+
+/// What a run leaves: its status, what the sink holds, and how many bytes the source has left.
+#[derive(Drop)]
+struct Run {
+    status: u8,
+    held: Vec<u8>,
+    left: usize,
+}
+
+/// How the source and the sink behave.
+#[derive(Clone, Copy)]
+struct Devices {
+    /// The most bytes that a read gives.
+    piece: usize,
+    room: Option<usize>,
+    failing_read: Option<u64>,
+    failing_write: Option<u64>,
+}
+
+const PLAIN: Devices = Devices {
+    piece: 65_536,
+    room: None,
+    failing_read: None,
+    failing_write: None,
+};
+
+fn calls(alloc: Global, failing: Option<u64>) -> Result<CallList, Memory> {
+    let mut list = CallList::new(alloc);
+    if let Some(call) = failing {
+        list.push(call)?;
+    }
+    Ok(list)
+}
+
+fn run_over(alloc: Global, words: &[&str], source: &[u8], devices: Devices) -> Result<Run, Memory> {
+    let mut list = Words::new(alloc);
+    for word in words {
+        list.push(word)?;
+    }
+    let bytes = Bytes::from_vec(Vec::from_slice(alloc, source)?);
+    let piece = devices.piece.max(1);
+    let mut source = MemSource::new(bytes, piece, calls(alloc, devices.failing_read)?);
+    let mut sink = MemSink::new(alloc, devices.room, calls(alloc, devices.failing_write)?)?;
+    let status = run_in_order(alloc, &list, &mut source, &mut sink);
+    Ok(Run {
+        status,
+        held: Vec::from_slice(alloc, sink.held())?,
+        left: source.left().len(),
+    })
+}
+
+/// A source, the report that is told for it, and the status. The values are from exact arithmetic, the places are
+/// counted by hand.
+const REPORTS: [(&str, &str, u8); 24] = [
+    ("", "pieces 0 refused 0\n", 0),
+    ("\n \n", "pieces 0 refused 0\n", 0),
+    (
+        "constexpr int a = 2 + 3 * 4;",
+        "const a : const int = 14\npieces 1 refused 0\n",
+        0,
+    ),
+    (
+        "constexpr int a=2*3+4;constexpr int b=2-3-4;",
+        "const a : const int = 10\nconst b : const int = -5\npieces 2 refused 0\n",
+        0,
+    ),
+    (
+        "constexpr int a = 2147483647 + 1;",
+        "1:19: error V1: signed overflow (at 1:19)\npieces 1 refused 1\n",
+        1,
+    ),
+    // the product is refused, and then the sum is not reached
+    (
+        "constexpr int a = 1 +\n 65536 * 65536;",
+        "1:19: error V1: signed overflow (at 2:2)\npieces 1 refused 1\n",
+        1,
+    ),
+    // the sum is reached before the product on its right
+    (
+        "constexpr int a = 2147483647 + 1 + 1 / 0;",
+        "1:19: error V1: signed overflow (at 1:19)\npieces 1 refused 1\n",
+        1,
+    ),
+    (
+        "constexpr int a = 1 - 7 % 0;\nconstexpr int b = 1;",
+        "1:19: error V1: division by zero (at 1:23)\nconst b : const int = 1\npieces 2 refused 1\n",
+        1,
+    ),
+    // cut toward zero, and the sign of the left side: 10 / 4 % 3 groups to the left
+    (
+        "constexpr int a = 10 / 4 % 3;",
+        "const a : const int = 2\npieces 1 refused 0\n",
+        0,
+    ),
+    (
+        "constexpr int a = 0 - 2147483647 - 1;",
+        "const a : const int = -2147483648\npieces 1 refused 0\n",
+        0,
+    ),
+    (
+        "constexpr int a = 0 - 2147483647 - 2;",
+        "1:19: error V1: signed overflow (at 1:19)\npieces 1 refused 1\n",
+        1,
+    ),
+    (
+        "constexpr int a = 2147483648;",
+        "1:1: error S1: syntax error\n",
+        1,
+    ),
+    ("constexpr int a = 00;", "1:1: error S1: syntax error\n", 1),
+    ("constexpr int a = ;", "1:1: error S1: syntax error\n", 1),
+    (
+        "constexpr int a = 1 + ;",
+        "1:1: error S1: syntax error\n",
+        1,
+    ),
+    (
+        "constexpr int a = 1 + * 2;",
+        "1:1: error S1: syntax error\n",
+        1,
+    ),
+    ("constexpr int a = 1", "1:1: error S1: syntax error\n", 1),
+    ("constexprint a = 1;", "1:1: error S1: syntax error\n", 1),
+    (
+        "constexpr int class = 1;",
+        "1:1: error S1: syntax error\n",
+        1,
+    ),
+    ("constexpr int std = 1;", "1:1: error S1: syntax error\n", 1),
+    (
+        "constexpr int meta = 1;",
+        "const meta : const int = 1\npieces 1 refused 0\n",
+        0,
+    ),
+    (
+        "constexpr int a = 1; constexpr int b = 1; constexpr int a = 2;",
+        "1:1: error S1: syntax error\n",
+        1,
+    ),
+    ("constexpr\tint a = 1;", "1:1: error S1: syntax error\n", 1),
+    (
+        "constexpr int \u{f6} = 1;",
+        "1:1: error S1: syntax error\n",
+        1,
+    ),
+];
+
+#[test]
+fn reports_are_told(rt: HostRuntime) -> Result<(), Fail> {
+    for case in REPORTS.iter() {
+        let found = run_over(rt.alloc(), &["order"], case.0.as_bytes(), PLAIN)?;
+        assert_eq!(rt; found.held.as_slice(), case.1.as_bytes(), "the report");
+        assert_eq!(rt; found.status, case.2, "the status");
+        assert_eq!(rt; found.left, 0, "read to the end");
+    }
+    Ok(())
+}
+
+const A: &str = "constexpr int a = 2 + 3 * 4;\n";
+
+const A_REPORT: &str = "const a : const int = 14\npieces 1 refused 0\n";
+
+/// Word lists that are not accepted.
+const REFUSED_WORDS: [&[&str]; 8] = [
+    &[],
+    &["--"],
+    &["--help"],
+    &["-h"],
+    &["Order"],
+    &["order", "order"],
+    &["order", "--limit"],
+    &["generate"],
+];
+
+#[test]
+fn other_words_touch_nothing(rt: HostRuntime) -> Result<(), Fail> {
+    for words in REFUSED_WORDS.iter() {
+        let found = run_over(rt.alloc(), words, A.as_bytes(), PLAIN)?;
+        assert_eq!(rt; found.status, 2, "the status");
+        assert!(rt; found.held.is_empty(), "nothing is written");
+        assert_eq!(rt; found.left, A.len(), "nothing is read");
+    }
+    Ok(())
+}
+
+/// A source of `before`, so many times `unit`, and `after`.
+fn repeated(
+    alloc: Global,
+    before: &str,
+    unit: &str,
+    times: usize,
+    after: &str,
+) -> Result<Vec<u8>, Memory> {
+    let mut text = Vec::from_slice(alloc, before.as_bytes())?;
+    for _ in 0..times {
+        text.extend_from_slice(unit.as_bytes())?;
+    }
+    text.extend_from_slice(after.as_bytes())?;
+    Ok(text)
+}
+
+const SYNTAX: &str = "1:1: error S1: syntax error\n";
+
+const TOO_LONG: &str = "1:1: error L6: source is longer than 4194304 bytes\n";
+
+/// Sources at a limit and one beyond it: `before`, so many times `unit`, `after`, and the last line of the report.
+const LIMITS: [(&str, &str, usize, &str, &str); 8] = [
+    // names of 255 and 256 bytes
+    ("constexpr int ", "n", 255, " = 1;", "pieces 1 refused 0\n"),
+    ("constexpr int ", "n", 256, " = 1;", SYNTAX),
+    // chains of 256 and 257 literals
+    (
+        "constexpr int a = 1",
+        "+1",
+        255,
+        ";",
+        "pieces 1 refused 0\n",
+    ),
+    ("constexpr int a = 1", "+1", 256, ";", SYNTAX),
+    // products count with the sum that they stand in
+    (
+        "constexpr int a = 1",
+        "-1*1",
+        127,
+        "+1;",
+        "pieces 1 refused 0\n",
+    ),
+    ("constexpr int a = 1", "-1*1", 128, ";", SYNTAX),
+    // the greatest length of a source, and one more
+    (A, " ", MAX_SOURCE - 29, "", "pieces 1 refused 0\n"),
+    (A, " ", MAX_SOURCE - 28, "", TOO_LONG),
+];
+
+#[test]
+fn limits_are_exact(rt: HostRuntime) -> Result<(), Fail> {
+    for case in LIMITS.iter() {
+        let source = repeated(rt.alloc(), case.0, case.1, case.2, case.3)?;
+        let found = run_over(rt.alloc(), &["order"], source.as_slice(), PLAIN)?;
+        assert!(rt;
+            found.held.as_slice().ends_with(case.4.as_bytes()),
+            "the last line"
+        );
+        assert_eq!(rt; found.left, 0, "one byte beyond the limit is read");
+    }
+    Ok(())
+}
+
+#[test]
+fn two_bytes_beyond_the_limit_leave_one(rt: HostRuntime) -> Result<(), Fail> {
+    let source = repeated(rt.alloc(), A, " ", MAX_SOURCE - 27, "")?;
+    let devices = Devices { piece: 7, ..PLAIN };
+    let found = run_over(rt.alloc(), &["order"], source.as_slice(), devices)?;
+    assert_eq!(rt; found.held.as_slice(), TOO_LONG.as_bytes(), "the report");
+    assert_eq!(rt; found.left, 1, "no more is read");
+    Ok(())
+}
+
+#[test]
+fn devices_fail(rt: HostRuntime) -> Result<(), Fail> {
+    // 29 bytes in pieces of 16 are three reads, of which the last finds the end
+    for read in 1..5 {
+        let devices = Devices {
+            piece: 16,
+            failing_read: Some(read),
+            ..PLAIN
+        };
+        let found = run_over(rt.alloc(), &["order"], A.as_bytes(), devices)?;
+        if read <= 3 {
+            assert_eq!(rt; found.status, 3, "a read failed");
+            assert!(rt; found.held.is_empty(), "nothing is written");
+        } else {
+            assert_eq!(rt; found.status, 0, "no read failed");
+            assert_eq!(rt; found.held.as_slice(), A_REPORT.as_bytes(), "the report");
+        }
+    }
+    // the report is one write
+    for write in 1..3 {
+        let devices = Devices {
+            piece: 1,
+            failing_write: Some(write),
+            ..PLAIN
+        };
+        let found = run_over(rt.alloc(), &["order"], A.as_bytes(), devices)?;
+        if write == 1 {
+            assert_eq!(rt; found.status, 4, "a write failed");
+            assert!(rt; found.held.is_empty(), "nothing is written");
+        } else {
+            assert_eq!(rt; found.status, 0, "no write failed");
+            assert_eq!(rt; found.held.as_slice(), A_REPORT.as_bytes(), "the report");
+        }
+    }
+    let devices = Devices {
+        room: Some(10),
+        ..PLAIN
+    };
+    let found = run_over(rt.alloc(), &["order"], A.as_bytes(), devices)?;
+    assert_eq!(rt; found.status, 4, "the room is too small");
+    assert_eq!(rt;
+        found.held.as_slice(),
+        b"const a : ".as_slice(),
+        "a front of the report"
+    );
+    Ok(())
+}
