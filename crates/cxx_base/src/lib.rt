@@ -22,3 +22,6 @@ pub use operator::{CompareOp, IntKind, IntOp};
 pub use place::{Place, Span};
 pub use refusal::{Code, Refusal};
 pub use ticks::Ticks;
+
+#[cfg(test)]
+mod tests;

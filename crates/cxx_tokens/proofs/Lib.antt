@@ -2,3 +2,4 @@ pub mod Ascii
 pub mod Fronted
 pub mod Longest
 pub mod Turning
+pub mod Words

@@ -3,3 +3,4 @@ pub mod Characters
 pub mod Fronts
 pub mod Gives
 pub mod Turns
+pub mod Words

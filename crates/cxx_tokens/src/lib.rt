@@ -13,3 +13,6 @@ pub use lexing::{LexFault, tokens};
 pub use punctuator::{EQUAL, MINUS, PERCENT, PLUS, SEMICOLON, SLASH, STAR};
 pub use token::{Token, TokenKind, Tokens};
 pub use word::{CONSTEXPR, INT};
+
+#[cfg(test)]
+mod tests;

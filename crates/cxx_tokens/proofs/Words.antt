@@ -1,0 +1,138 @@
+-- A word stands among the words of its length.
+use Rattle.std.proofs.Common.{◌≡◌, ℕ, zero, suc, ◌+◌, ◌<◌, ◌≤◌, Bool, true, false, ◌&&◌, cond, eqb, ltb, List, [], ◌∷◌, length, map, get_or, drop, Some, None, Bor, refl, sym, ap, subst, ◌∙◌, arith, true≢false}
+use Rattle.std.proofs.lemmas.Bool.{ltb-true}
+use Rattle.std.proofs.lemmas.List.{get_or-drop, drop-drop, length-map}
+use Rattle.std.proofs.lemmas.Bool.Decides.{Decides-eqb, nat_tests}
+use Rattle.std.specs.Cmp.Lexicographic.{bytes_decides}
+use Rattle.std.specs.List.{list_all, position_from}
+use Rattle.std.specs.Str.{bytes_eq}
+use Rattle.cxx_base.specs.Texts.{Text}
+use Rattle.cxx_tokens.specs.Lex.{reserved}
+use Rattle.cxx_tokens.specs.declared.word.TheConstants.{WORDS, BY_LENGTH}
+use Rattle.cxx_tokens.specs.Words.{AreBelow, first_spelled, word_at}
+
+-- the places of the texts of a length, of which the first stands at place i
+abbrev pub of_length : ℕ → ℕ → List Text → List ℕ
+of_length n i [] = []
+of_length n i (word ∷ words) = cond (eqb (length word) n) (i ∷ of_length n (i + 1) words) (of_length n (i + 1) words)
+
+of_length-below : (n most : ℕ) (i : ℕ) (words : List Text) → i + length words ≤ most → AreBelow most (of_length n i words)
+of_length-below n most i [] h = tt
+of_length-below n most i (word ∷ words) h = by (eqb (length word) n) (of_length-below n most (i + 1) words (omega (arith, h)))
+  where
+    by : (b : Bool) → AreBelow most (of_length n (i + 1) words) → AreBelow most (cond b (i ∷ of_length n (i + 1) words) (of_length n (i + 1) words))
+    by true rest = (omega (arith, h), rest)
+    by false rest = rest
+
+other_length : (word text : Text) → eqb (length word) (length text) ≡ false → bytes_eq word text ≡ false
+other_length word text h = by (bytes_eq word text) refl
+  where
+    by : (b : Bool) → bytes_eq word text ≡ b → b ≡ false
+    by false e = refl
+    by true e =
+        let same : eqb (length word) (length text) ≡ true = (Decides-eqb (length word) (length text)).1 (ap length ((bytes_decides word text).0 e)) in
+        absurd (cc (same, h))
+
+-- a list of references, seen as what they refer to
+position_by_text : {W : Type 0} (f : W → Text) (text : Text) (i : ℕ) (words : List W)
+    → position_from (λ word. bytes_eq (f word) text) i words ≡ position_from (λ word. bytes_eq word text) i (map f words)
+position_by_text f text i [] = refl
+position_by_text f text i (word ∷ words) = ap (λ rest. cond (bytes_eq (f word) text) (Some i) rest) (position_by_text f text (i + 1) words)
+
+get_or-now : (refs : List (Bor (List ℕ))) (n : ℕ) → (get_or refs n (record { ref_ptr = (0, 0); now = [] })).now ≡ get_or (map (λ r. r.now) refs) n []
+get_or-now [] n = refl
+get_or-now (r ∷ refs) zero = refl
+get_or-now (r ∷ refs) (suc n) = get_or-now refs n
+
+module _ (all : List (Bor Text)) (text : Text) where
+  -- a search of all words is one of the words of its length
+  search_by_length : (i : ℕ) (words : List Text) → drop i (map (λ word. word.now) all) ≡ words
+      → position_from (λ word. bytes_eq word text) i words ≡ first_spelled all (of_length (length text) i words) text
+  search_by_length i [] h = refl
+  search_by_length i (word ∷ words) h = by (eqb (length word) (length text)) refl (search_by_length (i + 1) words later)
+    where
+      texts : List Text
+      texts = map (λ word. word.now) all
+
+      later : drop (i + 1) texts ≡ words
+      later = sym (drop-drop 1 i texts) ∙ ap (drop 1) h
+
+      here : word_at all i ≡ word
+      here =
+          let same : i ≡ i + 0 = omega arith in
+          get_or-now all i ∙ ap (λ k. get_or texts k []) same ∙ sym (get_or-drop i texts 0 []) ∙ ap (λ (ws : List Text). get_or ws 0 []) h
+
+      by : (b : Bool) → eqb (length word) (length text) ≡ b
+          → position_from (λ word. bytes_eq word text) (i + 1) words ≡ first_spelled all (of_length (length text) (i + 1) words) text
+          → cond (bytes_eq word text) (Some i) (position_from (λ word. bytes_eq word text) (i + 1) words)
+          ≡ first_spelled all (cond b (i ∷ of_length (length text) (i + 1) words) (of_length (length text) (i + 1) words)) text
+      by true e rest = rw (here, rest) refl
+      by false e rest = rw (other_length word text e) rest
+
+apart : (a b c : ℕ) → a < b → b ≤ c → eqb a c ≡ false
+apart a b c h le = grind (arith, nat_tests)
+
+-- no word has n characters or more
+none_so_long : (n i : ℕ) (words : List Text) → list_all (λ word. ltb (length word) n) words ≡ true → (m : ℕ) → n ≤ m → of_length m i words ≡ []
+none_so_long n i [] h m le = refl
+none_so_long n i (word ∷ words) h m le = by (ltb (length word) n) refl h (λ rest. none_so_long n (i + 1) words rest m le)
+  where
+    by : (b : Bool) → ltb (length word) n ≡ b → (b && list_all (λ word. ltb (length word) n) words) ≡ true
+        → (list_all (λ word. ltb (length word) n) words ≡ true → of_length m (i + 1) words ≡ []) → of_length m i (word ∷ words) ≡ []
+    by true e h rest =
+        let other : eqb (length word) m ≡ false = apart (length word) n m (ltb-true _ _ e) le in
+        rw other (rest h)
+    by false e h rest = absurd (true≢false (sym h))
+
+-- a test that passes at each number below n
+abbrev pub all_below : ℕ → (ℕ → Bool) → Bool
+all_below zero p = true
+all_below (suc n) p = p n && all_below n p
+
+below_passes : (n : ℕ) (p : ℕ → Bool) → all_below n p ≡ true → (k : ℕ) → k < n → p k ≡ true
+below_passes zero p h k less = absurd (omega (arith, less))
+below_passes (suc n) p h k less = by (p n) refl h (eqb k n) refl (λ rest less. below_passes n p rest k less)
+  where
+    by : (b : Bool) → p n ≡ b → (b && all_below n p) ≡ true → (same : Bool) → eqb k n ≡ same → (all_below n p ≡ true → k < n → p k ≡ true) → p k ≡ true
+    by false e h same q rest = absurd (true≢false (sym h))
+    by true e h true q rest = let k_is : k ≡ n = (Decides-eqb k n).0 q in rw k_is e
+    by true e h false q rest = rest h (grind (arith, nat_tests))
+
+abbrev texts : List Text
+texts = map (λ word. word.now) WORDS
+
+abbrev tables : List (List ℕ)
+tables = map (λ places. places.now) BY_LENGTH
+
+-- the table has the places of the words of each length
+places_of_length : (n : ℕ) → n < 17 → get_or tables n [] ≡ of_length n 0 texts
+places_of_length n h = (bytes_decides _ _).0 (below_passes 17 (λ n. bytes_eq (get_or tables n []) (of_length n 0 texts)) refl n h)
+
+module _ (words : List (Bor Text)) (lengths : List (Bor (List ℕ))) (text : Text)
+    (same_words : map (λ word. word.now) words ≡ map (λ word. word.now) WORDS)
+    (same_lengths : map (λ places. places.now) lengths ≡ map (λ places. places.now) BY_LENGTH) where
+  count : length lengths ≡ 17
+  count = sym (length-map lengths (λ places. places.now)) ∙ ap length same_lengths
+
+  places : (n : ℕ) → n < 17 → (get_or lengths n (record { ref_ptr = (0, 0); now = [] })).now ≡ of_length n 0 texts
+  places n h = get_or-now lengths n ∙ ap (λ t. get_or t n []) same_lengths ∙ places_of_length n h
+
+  pub places_below : length text < length lengths
+      → AreBelow (length words) (get_or lengths (length text) (record { ref_ptr = (0, 0); now = [] })).now
+  places_below h =
+      let many : 93 ≡ length words = sym (ap length same_words) ∙ length-map words (λ word. word.now) in
+      subst (AreBelow (length words)) (sym (places (length text) (omega (arith, h, count)))) (of_length-below (length text) (length words) 0 texts (omega (arith, many)))
+
+  searched : reserved text ≡ first_spelled words (of_length (length text) 0 texts) text
+  unfolding reserved
+  searched =
+      position_by_text (λ word. word.now) text 0 WORDS
+      ∙ search_by_length words text 0 texts same_words
+
+  pub found_by_length : length text < length lengths
+      → first_spelled words (get_or lengths (length text) (record { ref_ptr = (0, 0); now = [] })).now text ≡ reserved text
+  found_by_length h = ap (λ some. first_spelled words some text) (places (length text) (omega (arith, h, count))) ∙ sym searched
+
+  pub none_longer : length lengths ≤ length text → None ≡ reserved text
+  none_longer h =
+      sym (ap (λ some. first_spelled words some text) (none_so_long 17 0 texts refl (length text) (omega (arith, h, count)))) ∙ sym searched

@@ -1,0 +1,17 @@
+-- The words that a list of places names.
+use Rattle.std.specs.Prelude.{ℕ, ◌<◌, if◌then◌else◌, List, [], ◌∷◌, get_or, Option, Some, None}
+use Rattle.std.specs.Borrow.{Bor}
+use Rattle.std.specs.Str.{bytes_eq}
+use Rattle.cxx_base.specs.Texts.{Text}
+
+abbrev pub AreBelow : ℕ → List ℕ → Type 0
+AreBelow n [] = Unit {0}
+AreBelow n (place ∷ places) = (place < n) × AreBelow n places
+
+abbrev pub word_at : List (Bor Text) → ℕ → Text
+word_at words place = (get_or words place (record { ref_ptr = (0, 0); now = [] })).now
+
+-- the first of the places where the text stands
+abbrev pub first_spelled : List (Bor Text) → List ℕ → Text → Option ℕ
+first_spelled words [] text = None
+first_spelled words (place ∷ places) text = if bytes_eq (word_at words place) text then Some place else first_spelled words places text
