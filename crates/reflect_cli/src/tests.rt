@@ -169,14 +169,18 @@ const A: &str = "constexpr int a = 2 + 3 * 4;\n";
 const A_REPORT: &str = "const a : const int = 14\npieces 1 refused 0\n";
 
 /// Word lists that are not accepted.
-const REFUSED_WORDS: [&[&str]; 8] = [
+const REFUSED_WORDS: [&[&str]; 12] = [
     &[],
+    &[""],
     &["--"],
     &["--help"],
     &["-h"],
     &["Order"],
     &["order", "order"],
-    &["order", "--limit"],
+    &["order", "--"],
+    &["order", "--limit", "05"],
+    &["order", "--limit", "5", "--limit", "5"],
+    &["translate", "--workers", "33"],
     &["generate"],
 ];
 
@@ -309,4 +313,28 @@ fn devices_fail(rt: HostRuntime) -> Result<(), Fail> {
         "a front of the report"
     );
     Ok(())
+}
+
+/// Three small sources with their reports: one without a refusal, one with a refused piece, one that is refused whole.
+const SMALL: [(&str, &str, u8); 3] = [
+    (A, A_REPORT, 0),
+    (
+        "constexpr int a = 1 / 0;",
+        "1:19: error V1: division by zero (at 1:19)\npieces 1 refused 1\n",
+        1,
+    ),
+    ("int a;", SYNTAX, 1),
+];
+
+// Run with each allocation refused in turn, this shows that a run ends with 5 or as ever, and the sink holds a front.
+#[test]
+fn memory_runs_out(rt: HostRuntime) {
+    for case in SMALL.iter() {
+        if let Ok(found) = run_over(rt.alloc(), &["order"], case.0.as_bytes(), PLAIN) {
+            let report = case.1.as_bytes();
+            let is_whole = found.held.as_slice() == report && found.status == case.2;
+            let is_front = report.starts_with(found.held.as_slice()) && found.status == 5;
+            assert!(rt; is_whole || is_front, "status {}", found.status);
+        }
+    }
 }
