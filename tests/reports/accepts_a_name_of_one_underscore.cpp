@@ -1,0 +1,1 @@
+constexpr int _ = 1;

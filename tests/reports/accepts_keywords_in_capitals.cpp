@@ -1,0 +1,3 @@
+constexpr int INT = 1;
+constexpr int Class = 2;
+constexpr int Constexpr = 3;

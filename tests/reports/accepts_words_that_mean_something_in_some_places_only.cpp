@@ -1,0 +1,2 @@
+constexpr int final = 1;
+constexpr int override = 2;

@@ -1,0 +1,2 @@
+constexpr int a = 0 / 5;
+constexpr int b = 0 % 5;

@@ -1,0 +1,1 @@
+constexpr int a = 100 / 10 / 5;

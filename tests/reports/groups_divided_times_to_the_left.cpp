@@ -1,0 +1,1 @@
+constexpr int a = 7 / 2 * 2;

@@ -1,0 +1,1 @@
+constexpr int a = 17 % 5 * 3;

@@ -1,0 +1,1 @@
+constexpr int a = 0 - 2147483647 - 2;

@@ -1,0 +1,2 @@
+#define N 1
+constexpr int a = 1;

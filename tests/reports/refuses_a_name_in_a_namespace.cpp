@@ -1,0 +1,1 @@
+constexpr int std::a = 1;

@@ -1,0 +1,1 @@
+namespace n { constexpr int a = 1; }

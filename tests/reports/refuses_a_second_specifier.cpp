@@ -1,0 +1,1 @@
+constexpr const int a = 1;

@@ -1,0 +1,1 @@
+constexpr int a = 2147483647 + 1;

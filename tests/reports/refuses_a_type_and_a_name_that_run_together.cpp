@@ -1,0 +1,1 @@
+constexpr inta = 1;

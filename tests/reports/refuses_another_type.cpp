@@ -1,0 +1,1 @@
+constexpr long a = 1;

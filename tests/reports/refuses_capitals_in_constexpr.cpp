@@ -1,0 +1,1 @@
+Constexpr int a = 1;

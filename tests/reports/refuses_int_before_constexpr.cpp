@@ -1,0 +1,1 @@
+int constexpr a = 1;

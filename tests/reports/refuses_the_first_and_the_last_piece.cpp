@@ -1,0 +1,3 @@
+constexpr int a = 1 / 0;
+constexpr int b = 2;
+constexpr int c = 1 % 0;

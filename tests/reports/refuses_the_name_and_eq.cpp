@@ -1,0 +1,1 @@
+constexpr int and_eq = 1;

@@ -1,0 +1,1 @@
+constexpr int auto = 1;

@@ -1,0 +1,1 @@
+constexpr int bool = 1;

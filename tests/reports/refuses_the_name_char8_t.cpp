@@ -1,0 +1,1 @@
+constexpr int char8_t = 1;

@@ -1,0 +1,1 @@
+constexpr int co_await = 1;

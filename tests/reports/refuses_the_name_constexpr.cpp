@@ -1,0 +1,1 @@
+constexpr int constexpr = 1;

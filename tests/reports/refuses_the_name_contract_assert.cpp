@@ -1,0 +1,1 @@
+constexpr int contract_assert = 1;

@@ -1,0 +1,1 @@
+constexpr int int = 1;

@@ -1,0 +1,1 @@
+constexpr int namespace = 1;

@@ -1,0 +1,1 @@
+constexpr int not = 1;

@@ -1,0 +1,1 @@
+constexpr int nullptr = 1;

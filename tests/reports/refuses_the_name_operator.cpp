@@ -1,0 +1,1 @@
+constexpr int operator = 1;

@@ -1,0 +1,1 @@
+constexpr int static_assert = 1;

@@ -1,0 +1,1 @@
+constexpr int std = 1;

@@ -1,0 +1,1 @@
+constexpr int this = 1;

@@ -1,0 +1,1 @@
+constexpr int typename = 1;

@@ -1,0 +1,1 @@
+constexpr int wchar_t = 1;

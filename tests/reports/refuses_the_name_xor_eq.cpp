@@ -1,0 +1,1 @@
+constexpr int xor_eq = 1;

@@ -1,0 +1,1 @@
+constexprint a = 1;

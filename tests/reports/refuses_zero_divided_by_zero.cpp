@@ -1,0 +1,2 @@
+constexpr int a = 0 / 0;
+constexpr int b = 0 % 0;

@@ -1,0 +1,1 @@
+constexpr int a = 20 - 12 % 5;

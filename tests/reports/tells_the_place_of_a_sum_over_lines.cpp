@@ -1,0 +1,3 @@
+constexpr int a
+  = 2147483647
+  + 1;

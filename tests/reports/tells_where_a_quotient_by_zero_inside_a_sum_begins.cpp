@@ -1,0 +1,1 @@
+constexpr int a = 10 - 3 * 4 / 0;

@@ -1,0 +1,16 @@
+
+
+  constexpr
+
+int   
+ a
+=
+2
++   3
+*
+ 4
+
+;constexpr int
+b= 7
+;
+
