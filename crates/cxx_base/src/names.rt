@@ -1,6 +1,6 @@
 //! Numbered names.
 
-ghost use Rattle.std.specs.Prelude.{◌≡◌, ◌+◌, ◌<◌, ◌≤◌, ◌^◌, length, map, slice_get, Some, OnOk, OnErr, IfOk, IfSome, is_some};
+ghost use Rattle.std.specs.Prelude.{◌≡◌, ◌+◌, ◌<◌, ◌≤◌, ◌^◌, length, map, slice_get, Some, OnOk, OnErr, IfOk, IfSome, is_some, codes};
 ghost use Rattle.cxx_base.specs.Texts.{number_of, with_text, with_texts, has_text, AreDistinct, library_names};
 
 use crate::library::LIBRARY;
@@ -34,7 +34,8 @@ impl Names {
     /// The names of the library.
     pub fn new(alloc: Global) -> Result<Names, Memory>
         ensures names { IfOk result (λ names. names ≡ library_names) }
-        ensures few { IfOk result (λ names. length names ≤ 69) }
+        ensures few { IfOk result (λ names. length names ≡ 69) }
+        ensures std { IfOk result (λ names. number_of names (codes "std") ≡ 0) }
     {
         let mut names = Names {
             texts: IndexSet::new(alloc),
@@ -45,8 +46,7 @@ impl Names {
 
     fn number_each(&mut self, texts: &[&str]) -> Result<(), Memory>
         requires { length self.old + length texts.now ≤ 2 ^ 24 }
-        ensures names { OnOk result (self.new ≡ with_texts self.old (map (λ text. text.now) texts.now)) }
-        ensures few { length self.new ≤ length self.old + length texts.now }
+        ensures { OnOk result (self.new ≡ with_texts self.old (map (λ text. text.now) texts.now)) }
     {
         for text in texts {
             self.number(text)?;
@@ -79,7 +79,7 @@ impl Names {
         self.texts.get_index(name.0 as usize).unwrap().as_str()
     }
 
-    /// How many names there are.
+    /// How many names there are. No text stands twice among them.
     pub fn len(&self) -> u32
         ensures len { result ≡ length self.now }
         ensures distinct { AreDistinct self.now }

@@ -1,11 +1,11 @@
 -- One turn of the lexer.
 use Rattle.std.proofs.Common.{◌≡◌, ℕ, zero, suc, ◌+◌, ◌-◌, ◌<◌, ◌≤◌, true, false, List, [], ◌∷◌, ◌++◌, length, get_or, take, drop, Result, Ok, Err, refl, sym, ap, ◌∙◌, arith}
 use Rattle.std.proofs.lemmas.List.{append_assoc, append-nil, length-append}
-use Rattle.cxx_base.specs.Texts.{Text}
+use Rattle.cxx_base.specs.Texts.{Text, with_texts}
 use Rattle.cxx_base.specs.declared.place.Place.{Place}
 use Rattle.cxx_tokens.specs.declared.lexing.LexFault.{LexFault}
 use Rattle.cxx_tokens.specs.declared.token.Token.{Token}
-use Rattle.cxx_tokens.specs.Lex.{Found, Lexed, lex_from, behind, token_at, token_from, after, after_all, is_gap}
+use Rattle.cxx_tokens.specs.Lex.{members, Found, Lexed, lex_from, behind, token_at, token_from, after, after_all, is_gap}
 use Rattle.cxx_tokens.specs.Turns.{lexed_on}
 
 -- the characters that are left of a token are passed
@@ -54,8 +54,8 @@ fault_turn tokens place names [] fault some h e = absurd (omega (arith, some))
 fault_turn tokens place names (c ∷ text) fault some h e = rw (h, e) refl
 
 -- the end
-pub no_more : (tokens : List Token) (place : Place) (names : List Text) → lexed_on tokens place names [] ≡ Ok (record { tokens = tokens; names = names; end = place })
-no_more tokens place names = ap (λ all. Ok (record { tokens = all; names = names; end = place })) (append-nil tokens)
+pub no_more : (tokens : List Token) (place : Place) (names : List Text) → lexed_on tokens place names [] ≡ Ok (record { tokens = tokens; names = with_texts names members; end = place })
+no_more tokens place names = ap (λ all. Ok (record { tokens = all; names = with_texts names members; end = place })) (append-nil tokens)
 
 pub behind_none : (rest : Result Lexed LexFault) → behind [] rest ≡ rest
 behind_none (Ok found) = refl

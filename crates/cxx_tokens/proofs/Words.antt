@@ -9,6 +9,7 @@ use Rattle.std.specs.Str.{bytes_eq}
 use Rattle.cxx_base.specs.Texts.{Text}
 use Rattle.cxx_tokens.specs.Lex.{reserved}
 use Rattle.cxx_tokens.specs.declared.word.TheConstants.{WORDS, BY_LENGTH}
+use Rattle.cxx_tokens.specs.Tables.{words as listed}
 use Rattle.cxx_tokens.specs.Words.{AreBelow, first_spelled, word_at}
 
 -- the places of the texts of a length, of which the first stands at place i
@@ -32,12 +33,6 @@ other_length word text h = by (bytes_eq word text) refl
     by true e =
         let same : eqb (length word) (length text) ≡ true = (Decides-eqb (length word) (length text)).1 (ap length ((bytes_decides word text).0 e)) in
         absurd (cc (same, h))
-
--- a list of references, seen as what they refer to
-position_by_text : {W : Type 0} (f : W → Text) (text : Text) (i : ℕ) (words : List W)
-    → position_from (λ word. bytes_eq (f word) text) i words ≡ position_from (λ word. bytes_eq word text) i (map f words)
-position_by_text f text i [] = refl
-position_by_text f text i (word ∷ words) = ap (λ rest. cond (bytes_eq (f word) text) (Some i) rest) (position_by_text f text (i + 1) words)
 
 get_or-now : (refs : List (Bor (List ℕ))) (n : ℕ) → (get_or refs n (record { ref_ptr = (0, 0); now = [] })).now ≡ get_or (map (λ r. r.now) refs) n []
 get_or-now [] n = refl
@@ -101,6 +96,11 @@ below_passes (suc n) p h k less = by (p n) refl h (eqb k n) refl (λ rest less. 
 abbrev texts : List Text
 texts = map (λ word. word.now) WORDS
 
+-- the words of the code are those of the definition
+words_are : listed ≡ texts
+unfolding listed
+words_are = refl
+
 abbrev tables : List (List ℕ)
 tables = map (λ places. places.now) BY_LENGTH
 
@@ -126,7 +126,7 @@ module _ (words : List (Bor Text)) (lengths : List (Bor (List ℕ))) (text : Tex
   searched : reserved text ≡ first_spelled words (of_length (length text) 0 texts) text
   unfolding reserved
   searched =
-      position_by_text (λ word. word.now) text 0 WORDS
+      ap (position_from (λ word. bytes_eq word text) 0) words_are
       ∙ search_by_length words text 0 texts same_words
 
   pub found_by_length : length text < length lengths

@@ -1,10 +1,11 @@
--- The tokens of a text, after [lex]. A text is a list of characters, which are all ASCII here.
-use Rattle.std.specs.Prelude.{ℕ, zero, suc, ◌+◌, ◌-◌, ◌*◌, ◌^◌, Bool, true, false, ◌&&◌, ◌||◌, ◌==◌, nat_lt, if◌then◌else◌, List, [], ◌∷◌, ◌++◌, length, take, drop, fold, Option, Some, None, Result, Ok, Err}
+-- The tokens of a text, after [lex]. A text is a list of bytes. One beyond ASCII begins no token, so each character of a
+-- token is one byte.
+use Rattle.std.specs.Prelude.{ℕ, zero, suc, ◌+◌, ◌-◌, ◌*◌, ◌^◌, Bool, true, false, ◌&&◌, ◌||◌, ◌==◌, nat_lt, if◌then◌else◌, List, [], ◌∷◌, ◌++◌, length, take, drop, fold, Option, Some, None, Result, Ok, Err, codes}
 use Rattle.std.specs.Char.{is_ascii_alphabetic, is_ascii_alphanumeric, is_ascii_digit}
 use Rattle.std.specs.List.{list_all, position_from}
 use Rattle.std.specs.Option.{is_some}
 use Rattle.std.specs.Str.{bytes_eq}
-use Rattle.cxx_base.specs.Texts.{Text, number_of, with_text}
+use Rattle.cxx_base.specs.Texts.{Text, number_of, with_text, with_texts}
 use Rattle.cxx_base.specs.declared.place.Place.{Place}
 use Rattle.cxx_tokens.specs.declared.lexing.LexFault.{LexFault}
 use Rattle.cxx_tokens.specs.declared.lexing.LexFault.TheVariants.{L2, L3, L5}
@@ -12,7 +13,7 @@ use Rattle.cxx_tokens.specs.declared.punctuator.TheConstants.{SEMICOLON, PLUS, M
 use Rattle.cxx_tokens.specs.declared.token.Token.{Token}
 use Rattle.cxx_tokens.specs.declared.token.TokenKind.{TokenKind}
 use Rattle.cxx_tokens.specs.declared.token.TokenKind.TheVariants.{Identifier, Word, Punctuator, Integer}
-use Rattle.cxx_tokens.specs.declared.word.TheConstants.{WORDS}
+use Rattle.cxx_tokens.specs.Tables.{words}
 
 -- ---- places
 
@@ -77,7 +78,7 @@ longest (suc n) text = if is_token (take (suc n) text) then Some (suc n) else lo
 
 -- the place of a word in the list of those that are never identifiers
 unfoldable pub reserved : Text → Option ℕ
-reserved text = position_from (λ word. bytes_eq word.now text) 0 WORDS
+reserved text = position_from (λ word. bytes_eq word text) 0 words
 
 -- the number that decimal digits mean
 abbrev pub value_of : Text → ℕ
@@ -149,10 +150,14 @@ token_from kind place number = record { kind = kind; span = record { place = pla
 abbrev pub behind : List Token → Result Lexed LexFault → Result Lexed LexFault
 behind tokens rest = rest >>= λ found. Ok (record found { tokens = tokens ++ found.tokens })
 
+-- the members of `std::meta::member_offset`, which are numbered last
+abbrev pub members : List Text
+members = codes "bytes" ∷ codes "bits" ∷ []
+
 -- A text is cut from its start to its end into gaps and tokens. `left` counts the characters that are left of the token
 -- before, `number` the tokens so far.
 abbrev pub lex_from : ℕ → Place → ℕ → List Text → Text → Result Lexed LexFault
-lex_from left place number names [] = Ok (record { tokens = []; names = names; end = place })
+lex_from left place number names [] = Ok (record { tokens = []; names = with_texts names members; end = place })
 lex_from (suc left) place number names (c ∷ text) = lex_from left (after place c) number names text
 lex_from zero place number names (c ∷ text) =
     if is_gap c then lex_from zero (after place c) number names text

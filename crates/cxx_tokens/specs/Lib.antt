@@ -4,3 +4,4 @@ pub mod Fronts
 pub mod Gives
 pub mod Turns
 pub mod Words
+pub mod Tables

@@ -1,4 +1,4 @@
--- The words that a list of places names.
+-- The words that a list of places names. Only the search for a reserved word cites this; the words themselves are in Tables.
 use Rattle.std.specs.Prelude.{ℕ, ◌<◌, if◌then◌else◌, List, [], ◌∷◌, get_or, Option, Some, None}
 use Rattle.std.specs.Borrow.{Bor}
 use Rattle.std.specs.Str.{bytes_eq}

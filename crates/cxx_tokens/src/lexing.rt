@@ -1,6 +1,7 @@
 //! From bytes to tokens.
 
-ghost use Rattle.std.specs.Prelude.{◌≡◌, ◌+◌, ◌≤◌, ◌<◌, ◌^◌, length, drop, true, IfOk, Ok};
+ghost use Rattle.std.specs.Prelude.{◌≡◌, ◌+◌, ◌≤◌, ◌<◌, ◌^◌, length, drop, true, IfOk, IfErr, OnOk, Ok};
+ghost use Rattle.cxx_base.specs.Texts.{with_texts};
 ghost use Rattle.cxx_tokens.specs.Gives.{GivesKind, GivesTokens, Keeps};
 ghost use Rattle.cxx_tokens.specs.Lex as spec;
 ghost use Rattle.cxx_tokens.specs.Turns.{GivesToken, Goes, lexed_on};
@@ -196,7 +197,19 @@ fn token_from(kind: TokenKind, place: Place, number: u32) -> Token
     Token { kind, span }
 }
 
-/// The tokens of a text, each identifier numbered in `names`. A refusal is the first from the left; `names` may then
+// An injected class may need these names, and no source has to write them.
+fn number_members(names: &mut Names) -> Result<(), LexFault>
+    requires { length names.old + 2 ≤ 2 ^ 24 }
+    ensures names { OnOk result (names.new ≡ with_texts names.old spec.members) }
+    ensures kept { Keeps names.old names.new }
+    ensures memory { IfErr result (λ fault. fault ≡ LexFault.Memory) }
+{
+    names.number("bytes")?;
+    names.number("bits")?;
+    Ok(())
+}
+
+/// The tokens of a text, each identifier numbered in `names`, and then `bytes` and `bits`. A refusal is the first from the left; `names` may then
 /// hold more texts than before.
 pub fn tokens(alloc: Global, names: &mut Names, bytes: &[u8]) -> Result<Tokens, LexFault>
     requires short { length bytes.now ≤ 4194304 }
@@ -211,5 +224,6 @@ pub fn tokens(alloc: Global, names: &mut Names, bytes: &[u8]) -> Result<Tokens, 
     while at < bytes.len() {
         at += turn(names, &mut list, &mut place, &bytes[at..])?;
     }
+    number_members(names)?;
     Ok(Tokens { list, end: place })
 }

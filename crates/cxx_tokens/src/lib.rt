@@ -3,12 +3,14 @@
 
 mod character;
 mod front;
+mod laws;
 mod lexing;
 mod number;
 mod punctuator;
 mod token;
 mod word;
 
+pub use laws::numbers_are_places;
 pub use lexing::{LexFault, tokens};
 pub use punctuator::{EQUAL, MINUS, PERCENT, PLUS, SEMICOLON, SLASH, STAR};
 pub use token::{Token, TokenKind, Tokens};

@@ -126,8 +126,13 @@ fn finds_places(rt: HostRuntime) -> Result<(), Fail> {
         assert_eq!(rt; token.span, Span { place, first, end });
     }
     assert_eq!(rt; found.end, Place { line: 5, column: 1 });
-    assert_eq!(rt; names.len(), 71);
+    // the two new identifiers, and then the members of `std::meta::member_offset`
+    assert_eq!(rt; names.len(), 73);
     assert_eq!(rt; (names.text(Name(69)), names.text(Name(70))), ("ab", "c"));
+    assert_eq!(rt;
+        (names.text(Name(71)), names.text(Name(72))),
+        ("bytes", "bits")
+    );
     Ok(())
 }
 

@@ -9,7 +9,7 @@ mod operate;
 #[cfg(test)]
 mod tests;
 
-pub use cxx_base::{IntKind, IntOp};
+pub use cxx_base::{CompareOp, IntKind, IntOp};
 pub use fault::ArithFault;
 pub use kind::{greatest, is_in_range, least};
 pub use laws::{division_is_whole, refuses_only_beyond_range};

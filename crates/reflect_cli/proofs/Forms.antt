@@ -1,5 +1,5 @@
 -- A turn of the loop that looks for a name among those before it.
-use Rattle.std.proofs.Common.{◌≡◌, ℕ, suc, ◌+◌, ◌<◌, Bool, true, false, not, ◌&&◌, cond, nat_eq, List, [], ◌∷◌, ◌++◌, length, get_or, drop, refl, sym, ap, ◌∙◌, arith, add-one, drop-cons, true≢false}
+use Rattle.std.proofs.Common.{◌≡◌, ℕ, suc, ◌+◌, ◌<◌, Bool, true, false, not, ◌&&◌, cond, nat_eq, List, [], ◌∷◌, ◌++◌, length, get_or, drop, refl, sym, ap, ◌∙◌, add-one, drop-cons, true≢false}
 use Rattle.std.specs.List.{list_any}
 use Rattle.reflect_cli.specs.declared.cxx_tree.Declaration.{Declaration}
 use Rattle.reflect_cli.specs.Form.{are_new, names_in}

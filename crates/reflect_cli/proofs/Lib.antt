@@ -1,4 +1,6 @@
 pub mod Forms
 pub mod Links
-pub mod WholeSource
+pub mod StdName
+pub mod Trees
 pub mod Turns
+pub mod WholeSource

@@ -1,9 +1,10 @@
 -- A turn of the loop over a chain.
-use Rattle.std.proofs.Common.{◌≡◌, ℕ, suc, ◌+◌, ◌<◌, ℤ, List, [], ◌∷◌, length, get_or, drop, Result, Ok, Err, refl, sym, ap, ◌∙◌, add-one, drop-cons}
+use Rattle.std.proofs.Common.{◌≡◌, ℕ, suc, ◌+◌, ◌<◌, ℤ, List, ◌∷◌, length, get_or, drop, Ok, Err, sym, ap, ◌∙◌, add-one, drop-cons}
 use Rattle.cxx_base.specs.declared.place.Place.{Place}
 use Rattle.reflect_cli.specs.declared.const_eval.Refused.{Refused}
 use Rattle.reflect_cli.specs.declared.cxx_tree.Link.{Link}
-use Rattle.reflect_cli.specs.Values.{Evaluated, link_value, links_value, ◌>>=◌}
+use Rattle.reflect_cli.specs.Values.{Evaluated, ◌>>=◌}
+use Rattle.reflect_cli.specs.Chains.{link_value, links_value}
 
 module _ {A : Type 0} (place : Place) (value : A → Evaluated) (left : ℤ) (links : List (Link A)) (i : ℕ) (link d : Link A)
     (h : i < length links) (e : link ≡ get_or links i d) where

@@ -1,7 +1,7 @@
 -- A part that is read as often as it reads, in a loop.
-use Rattle.std.proofs.Common.{◌≡◌, ℕ, zero, suc, ◌+◌, ◌-◌, ◌<◌, ◌≤◌, List, [], ◌∷◌, ◌++◌, Option, Some, None, refl, sym, ap, ◌∙◌, arith}
+use Rattle.std.proofs.Common.{◌≡◌, ℕ, zero, suc, ◌+◌, ◌-◌, ◌<◌, List, [], ◌∷◌, ◌++◌, Some, None, ap, arith}
 use Rattle.std.proofs.lemmas.List.{append_assoc, append-nil}
-use Rattle.reflect_cli.specs.Grammar.{Rule, many, in_front}
+use Rattle.reflect_cli.specs.Grammar.{Rule, many}
 
 abbrev pub behind : {A : Type 0} → List A → List A × ℕ → List A × ℕ
 behind found rest = (found ++ rest.0, rest.1)

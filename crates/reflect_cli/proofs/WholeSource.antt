@@ -1,13 +1,13 @@
 -- How far a source was read, and what is told of one that is too long.
-use Rattle.std.proofs.Common.{◌≡◌, ℕ, ◌+◌, ◌≤◌, ◌<◌, List, [], length, drop, Option, None, Some, IfSome, sym, ◌∙◌, subst, ap, cond, arith}
+use Rattle.std.proofs.Common.{ℕ, ◌+◌, ◌≤◌, ◌<◌, List, length, Option, None, Some, IfSome, sym, ◌∙◌, arith}
 use Rattle.std.proofs.Math.ListN.{drop_of_length-le}
 use Rattle.std.proofs.lemmas.Bool.{lt-ltb}
 use Rattle.std.specs.Io.KnownBytes.{IsAtEnd}
 use Rattle.io_edge.specs.Edge.{Drops, TellsOn}
 use Rattle.cxx_base.specs.declared.refusal.Code.TheVariants.{L6}
 use Rattle.reflect_cli.specs.Answers.{IsTold}
-use Rattle.reflect_cli.specs.Program.{program_of, whole}
-use Rattle.reflect_cli.specs.Told.{report_of, refused, answer_by}
+use Rattle.reflect_cli.specs.Program.{whole}
+use Rattle.reflect_cli.specs.Told.{report_of, refused}
 use Rattle.reflect_cli.specs.declared.answer.Answer.{Answer}
 
 -- a source that is read to its end and was not longer

@@ -1,6 +1,5 @@
 -- What the parts of the top call give.
-use Rattle.std.specs.Prelude.{◌≡◌, ℕ, Option, None, Some, Result, Ok, Err, if◌then◌else◌}
-use Rattle.cxx_base.specs.declared.memory.Memory.{Memory}
+use Rattle.std.specs.Prelude.{◌≡◌, Option, None, Some, Result, Ok, Err, if◌then◌else◌}
 use Rattle.cxx_base.specs.declared.refusal.Code.TheVariants.{S1}
 use Rattle.reflect_cli.specs.Program.{whole}
 use Rattle.reflect_cli.specs.Told.{Answer as Told}

@@ -1,6 +1,7 @@
 -- The accepted form: what a list of declarations meets beside the grammar.
-use Rattle.std.specs.Prelude.{ℕ, ◌+◌, Bool, true, false, not, ◌&&◌, ◌==◌, nat_le, List, [], ◌∷◌, ◌++◌, length, map, sum_by}
+use Rattle.std.specs.Prelude.{ℕ, ◌+◌, Bool, true, not, ◌&&◌, ◌==◌, nat_le, List, [], ◌∷◌, ◌++◌, length, map, sum_by, codes}
 use Rattle.std.specs.List.{list_all, list_any}
+use Rattle.cxx_base.specs.Texts.{library_names, number_of}
 use Rattle.reflect_cli.specs.declared.cxx_tree.Chain.{Chain}
 use Rattle.reflect_cli.specs.declared.cxx_tree.Literal.{Literal}
 use Rattle.reflect_cli.specs.declared.cxx_tree.Declaration.{Declaration}
@@ -12,9 +13,13 @@ product_size product = 1 + length product.rest
 abbrev pub sum_size : Chain (Chain Literal) → ℕ
 sum_size sum = product_size sum.first + sum_by (λ link. product_size link.operand) sum.rest
 
--- The name is not `std`, the first of the names of the library, and there are at most 256 literals.
+-- the number of `std`, a name of the library, in all lists of names
+unfoldable pub std_number : ℕ
+std_number = number_of library_names (codes "std")
+
+-- the name is not `std`, and there are at most 256 literals
 abbrev pub fits : Declaration → Bool
-fits declaration = not (declaration.name.0 == 0) && nat_le (sum_size declaration.initializer) 256
+fits declaration = not (declaration.name.0 == std_number) && nat_le (sum_size declaration.initializer) 256
 
 -- no name is one of those before it
 abbrev pub are_new : List ℕ → List ℕ → Bool

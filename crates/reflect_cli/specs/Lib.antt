@@ -2,6 +2,7 @@ pub mod Grammar
 pub mod Gives
 pub mod Form
 pub mod Values
+pub mod Chains
 pub mod Order
 pub mod Texts
 pub mod Report

@@ -1,5 +1,5 @@
 -- Translation in order: each piece has the outcome of its declaration.
-use Rattle.std.specs.Prelude.{ℕ, Some, Result, Ok, Err}
+use Rattle.std.specs.Prelude.{ℕ, Some, Ok, Err}
 use Rattle.cxx_base.specs.declared.refusal.Code.TheVariants.{V1}
 use Rattle.int_kinds.specs.declared.fault.ArithFault.{ArithFault}
 use Rattle.int_kinds.specs.declared.fault.ArithFault.TheVariants.{Overflow, ZeroDivisor, LeastByMinusOne, ShiftCount}

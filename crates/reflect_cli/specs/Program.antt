@@ -1,10 +1,8 @@
 -- The program of a source text.
-use Rattle.std.specs.Prelude.{◌≡◌, ℕ, if◌then◌else◌, List, Option, None, Some, Result, Ok, Err}
+use Rattle.std.specs.Prelude.{if◌then◌else◌, List, Option, None, Some, Result, Ok, Err}
 use Rattle.std.specs.Option.{option_and_then}
 use Rattle.cxx_base.specs.Texts.{Text, library_names}
-use Rattle.cxx_base.specs.declared.place.Place.{Place}
 use Rattle.cxx_base.specs.declared.refusal.Code.{Code}
-use Rattle.cxx_base.specs.declared.refusal.Code.TheVariants.{S1, L6}
 use Rattle.cxx_base.specs.declared.refusal.Refusal.{Refusal}
 use Rattle.cxx_tokens.specs.Lex.{Lexed, lex, start}
 use Rattle.cxx_tokens.specs.declared.lexing.LexFault.{LexFault}

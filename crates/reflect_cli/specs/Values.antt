@@ -1,5 +1,5 @@
 -- The value of an initializer, or its first refused operation, in order of evaluation ([expr.const]).
-use Rattle.std.specs.Prelude.{◌≡◌, ℕ, ℤ, List, [], ◌∷◌, Result, Ok, Err}
+use Rattle.std.specs.Prelude.{ℤ, fold, Result, Ok, Err}
 use Rattle.cxx_base.specs.declared.operator.IntKind.TheVariants.{Int}
 use Rattle.cxx_base.specs.declared.operator.IntOp.{IntOp}
 use Rattle.cxx_base.specs.declared.operator.IntOp.TheVariants as op
@@ -10,7 +10,6 @@ use Rattle.reflect_cli.specs.declared.const_eval.Refused.{Refused}
 use Rattle.reflect_cli.specs.declared.cxx_tree.Arithmetic.{Arithmetic}
 use Rattle.reflect_cli.specs.declared.cxx_tree.Arithmetic.TheVariants.{Add, Sub, Mul, Div, Rem}
 use Rattle.reflect_cli.specs.declared.cxx_tree.Chain.{Chain}
-use Rattle.reflect_cli.specs.declared.cxx_tree.Link.{Link}
 use Rattle.reflect_cli.specs.declared.cxx_tree.Literal.{Literal}
 
 abbrev pub Evaluated : Type 0
@@ -33,33 +32,38 @@ abbrev pub at_place : Place → Result ℤ ArithFault → Evaluated
 at_place place (Ok value) = Ok value
 at_place place (Err fault) = Err (record { fault = fault; place = place })
 
--- The left operand is there. The right one is evaluated, and then the operation, whose tree begins where the chain does.
-abbrev pub link_value : {A : Type 0} → Place → (A → Evaluated) → ℤ → Link A → Evaluated
-link_value place value left link =
-    value link.operand >>= λ right. at_place place (applied (operator_of link.operator) Int left right)
+-- A tree: a literal, or an operation with its left and its right operand.
+pub data Tree : Type 0 where
+  Leaf : Literal → Tree
+  Operation : Arithmetic → Tree → Tree → Tree
 
-abbrev pub links_value : {A : Type 0} → Place → (A → Evaluated) → ℤ → List (Link A) → Evaluated
-links_value place value left [] = Ok left
-links_value place value left (link ∷ links) = link_value place value left link >>= λ result. links_value place value result links
+-- the operators of a chain group to the left
+abbrev pub grouped : {A : Type 0} → (A → Tree) → Chain A → Tree
+grouped tree chain = fold (λ left link. Operation link.operator left (tree link.operand)) (tree chain.first) chain.rest
 
-abbrev pub chain_value : {A : Type 0} → (A → Place) → (A → Evaluated) → Chain A → Evaluated
-chain_value place value chain = value chain.first >>= λ left. links_value (place chain.first) value left chain.rest
+abbrev pub product_tree : Chain Literal → Tree
+product_tree = grouped Leaf
 
-abbrev pub literal_place : Literal → Place
-literal_place literal = literal.place
+abbrev pub sum_tree : Chain (Chain Literal) → Tree
+sum_tree = grouped product_tree
 
-abbrev pub product_place : Chain Literal → Place
-product_place product = literal_place product.first
+abbrev pub first_token : Tree → Place
+first_token (Leaf literal) = literal.place
+first_token (Operation operator left right) = first_token left
 
--- the first token of an initializer
-abbrev pub sum_place : Chain (Chain Literal) → Place
-sum_place sum = product_place sum.first
-
-abbrev pub literal_value : Literal → Evaluated
-literal_value literal = Ok literal.value
+-- The value of a tree: the left operand first, and then the right one. An operation without a value is refused at the first
+-- token of its tree.
+abbrev pub value : Tree → Evaluated
+value (Leaf literal) = Ok literal.value
+value (Operation operator left right) =
+    value left >>= λ a. value right >>= λ b. at_place (first_token left) (applied (operator_of operator) Int a b)
 
 unfoldable pub product_value : Chain Literal → Evaluated
-product_value = chain_value literal_place literal_value
+product_value product = value (product_tree product)
 
 unfoldable pub sum_value : Chain (Chain Literal) → Evaluated
-sum_value = chain_value product_place product_value
+sum_value sum = value (sum_tree sum)
+
+-- the first token of an initializer
+unfoldable pub sum_place : Chain (Chain Literal) → Place
+sum_place sum = first_token (sum_tree sum)

@@ -4,6 +4,7 @@ ghost use Rattle.std.specs.Prelude.{◌≡◌, IfOk};
 ghost use Rattle.cxx_base.specs.declared.operator.IntKind.TheVariants.{Int};
 ghost use Rattle.int_kinds.specs.Kind.{IsInRange};
 ghost use Rattle.int_kinds.specs.Operate.{IsArithmetic, applied};
+ghost use Rattle.reflect_cli.specs.Chains as chain;
 ghost use Rattle.reflect_cli.specs.Values as spec;
 
 use crate::cxx_tree::{Arithmetic, Link, Literal, Product, Sum};
@@ -44,13 +45,13 @@ fn operate(place: Place, operator: Arithmetic, left: i128, right: i128) -> Resul
 
 fn factor_value(place: Place, left: i128, link: &Link<Literal>) -> Result<i128, Refused>
     requires { IsInRange Int left }
-    ensures value { result ≡ spec.link_value place spec.literal_value left link.now }
+    ensures value { result ≡ chain.link_value place chain.literal_value left link.now }
     ensures in_range { IfOk result (IsInRange Int) }
 {
     operate(place, link.operator, left, i128::from(link.operand.value))
 }
 
-#[tactic(auto, unfolding(crate::specs::Values::product_value))]
+#[tactic(auto, using(crate::proofs::Trees::product_is))]
 fn product_value(product: &Product) -> Result<i128, Refused>
     ensures value { result ≡ spec.product_value product.now }
     ensures in_range { IfOk result (IsInRange Int) }
@@ -61,7 +62,7 @@ fn product_value(product: &Product) -> Result<i128, Refused>
 
 fn factors_value(place: Place, first: i128, links: &[Link<Literal>]) -> Result<i128, Refused>
     requires { IsInRange Int first }
-    ensures value { result ≡ spec.links_value place spec.literal_value first links.now }
+    ensures value { result ≡ chain.links_value place chain.literal_value first links.now }
     ensures in_range { IfOk result (IsInRange Int) }
 {
     let mut value = first;
@@ -75,6 +76,7 @@ fn factors_value(place: Place, first: i128, links: &[Link<Literal>]) -> Result<i
 }
 
 /// The place of the first token of an expression.
+#[tactic(auto, using(crate::proofs::Trees::place_is))]
 pub fn first_token(sum: &Sum) -> Place
     ensures { result ≡ spec.sum_place sum.now }
 {
@@ -83,7 +85,7 @@ pub fn first_token(sum: &Sum) -> Place
 
 fn term_value(place: Place, left: i128, link: &Link<Product>) -> Result<i128, Refused>
     requires { IsInRange Int left }
-    ensures value { result ≡ spec.link_value place spec.product_value left link.now }
+    ensures value { result ≡ chain.link_value place spec.product_value left link.now }
     ensures in_range { IfOk result (IsInRange Int) }
 {
     match product_value(&link.operand) {
@@ -93,7 +95,7 @@ fn term_value(place: Place, left: i128, link: &Link<Product>) -> Result<i128, Re
 }
 
 /// The value of an expression of type `int`, or its first refused operation in order of evaluation.
-#[tactic(auto, unfolding(crate::specs::Values::sum_value))]
+#[tactic(auto, using(crate::proofs::Trees::sum_is, crate::proofs::Trees::place_is))]
 pub fn sum_value(sum: &Sum) -> Result<i128, Refused>
     ensures value { result ≡ spec.sum_value sum.now }
     ensures in_range { IfOk result (IsInRange Int) }
@@ -107,7 +109,7 @@ pub fn sum_value(sum: &Sum) -> Result<i128, Refused>
 
 fn terms_value(place: Place, first: i128, links: &[Link<Product>]) -> Result<i128, Refused>
     requires { IsInRange Int first }
-    ensures value { result ≡ spec.links_value place spec.product_value first links.now }
+    ensures value { result ≡ chain.links_value place spec.product_value first links.now }
     ensures in_range { IfOk result (IsInRange Int) }
 {
     let mut value = first;

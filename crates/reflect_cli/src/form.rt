@@ -11,6 +11,9 @@ use std::alloc::Global;
 
 const MAX_LITERALS: usize = 256;
 
+// `std` is the first of the names of the library.
+const STD: u32 = 0;
+
 fn is_short(sum: &Sum) -> bool
     ensures { result ≡ nat_le (spec.sum_size sum.now) 256 }
 {
@@ -23,10 +26,11 @@ fn is_short(sum: &Sum) -> bool
     size <= MAX_LITERALS
 }
 
+#[tactic(auto, using(crate::proofs::StdName::std_is_first))]
 fn fits(declaration: &Declaration) -> bool
     ensures { result ≡ spec.fits declaration.now }
 {
-    declaration.name.0 != 0 && is_short(&declaration.initializer)
+    declaration.name.0 != STD && is_short(&declaration.initializer)
 }
 
 fn are_new(alloc: Global, declarations: &[Declaration]) -> Result<bool, Memory>

@@ -74,8 +74,9 @@ pub fn run_in_order<S: Source, K: Sink>(
     ensures source_fault { result ≡ 3 → Rose (S.faults source.old) (S.faults source.new) }
     ensures unwritten { result ≡ 3 → sink.new ≡ sink.old }
 
-    // 4: a write failed. 5: memory ran out. A front of the text is written.
+    // 4: a write failed, after the source was read as far as at 0 or 1. 5: memory ran out. A front of the text is written.
     ensures sink_fault { result ≡ 4 → Rose (K.faults sink.old) (K.faults sink.new) }
+    ensures read_before { result ≡ 4 → Drops (S.left source.old) (S.left source.new) (MAX_SOURCE + 1) }
     ensures prefix { 4 ≤ result → IfSome (S.left source.old) (λ xs. IsSomeAnd (told words.now xs) (λ answer.
         AppendsPrefix (K.held sink.old) (K.held sink.new) answer.text)) }
 
@@ -101,6 +102,7 @@ fn order<S: Source, K: Sink>(alloc: Global, source: &mut S, sink: &mut K) -> u8
     ensures source_fault { result ≡ 3 → Rose (S.faults source.old) (S.faults source.new) }
     ensures unwritten { result ≡ 3 → sink.new ≡ sink.old }
     ensures sink_fault { result ≡ 4 → Rose (K.faults sink.old) (K.faults sink.new) }
+    ensures read_before { result ≡ 4 → Drops (S.left source.old) (S.left source.new) (MAX_SOURCE + 1) }
     ensures prefix { 4 ≤ result → IfSome (S.left source.old) (λ xs.
         AppendsPrefix (K.held sink.old) (K.held sink.new) (report_of xs).text) }
     ensures statuses { result ≤ 5 }

@@ -3,7 +3,7 @@ use Rattle.std.specs.Int.{w128}
 use Rattle.std.proofs.lemmas.Int.{to_z-of_z, ints}
 use Rattle.cxx_base.specs.declared.operator.IntKind.TheVariants.{Int}
 use Rattle.int_kinds.specs.Kind.{IsInRange}
-use Rattle.reflect_cli.specs.Values.{literal_value}
+use Rattle.reflect_cli.specs.Chains.{literal_value}
 use Rattle.reflect_cli.proofs.Links.{goes}
 use Rattle.reflect_cli.proofs.const_eval.factors_value.Goals as goal
 

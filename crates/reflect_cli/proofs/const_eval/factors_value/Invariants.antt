@@ -1,7 +1,7 @@
 use Rattle.std.proofs.Common.{◌≡◌, drop}
 use Rattle.cxx_base.specs.declared.operator.IntKind.TheVariants.{Int}
 use Rattle.int_kinds.specs.Kind.{IsInRange}
-use Rattle.reflect_cli.specs.Values.{links_value, literal_value}
+use Rattle.reflect_cli.specs.Chains.{links_value, literal_value}
 use Rattle.reflect_cli.proofs.const_eval.factors_value.Given as goal
 
 -- what is left gives the value of all

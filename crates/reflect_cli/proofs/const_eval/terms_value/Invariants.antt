@@ -1,7 +1,8 @@
 use Rattle.std.proofs.Common.{◌≡◌, drop}
 use Rattle.cxx_base.specs.declared.operator.IntKind.TheVariants.{Int}
 use Rattle.int_kinds.specs.Kind.{IsInRange}
-use Rattle.reflect_cli.specs.Values.{links_value, product_value}
+use Rattle.reflect_cli.specs.Chains.{links_value}
+use Rattle.reflect_cli.specs.Values.{product_value}
 use Rattle.reflect_cli.proofs.const_eval.terms_value.Given as goal
 
 -- what is left gives the value of all
