@@ -97,6 +97,9 @@ impl Sink for MemSink {
             ↔ (Contains self.old.failing (self.old.calls + 1)
             ⊎ ((0 < length bytes.now) × (room ≤ length self.old.held)))) }
 
+        // Without a room memory may be wanting too, but for a piece that is not empty alone.
+        ensures cause { IsErr result → Contains self.old.failing (self.old.calls + 1) ⊎ (0 < length bytes.now) }
+
         // A call takes what fits, and a failing call nothing.
         ensures takes { IfOk result (λ n.
             n ≡ fitting self.old.room (length self.old.held) (length bytes.now)) }
@@ -136,15 +139,19 @@ fn append_fitting(held: &mut Vec<u8>, room: Option<usize>, bytes: &[u8]) -> Resu
     ensures progress { IfOk result (λ n. 0 < length bytes.now → 0 < n) }
     ensures appends { IfOk result (λ n. held.new.items ≡ held.old.items ++ take n bytes.now) }
     ensures kept { OnErr result (held.new.items ≡ held.old.items) }
+    ensures some { OnErr result (0 < length bytes.now) }
     ensures full { IfSome room (λ r.
         OnErr result ((0 < length bytes.now) × (r ≤ length held.old.items))) }
     ensures within { ForSome room (λ r. (length held.new.items ≤ r) × (r ≤ vec_capacity held.new)) }
 {
+    if bytes.is_empty() {
+        return Ok(0);
+    }
     let fits = match room {
         Some(room) => bytes.len().min(room - held.len()),
         None => bytes.len(),
     };
-    if fits == 0 && !bytes.is_empty() {
+    if fits == 0 {
         return Err(Failed);
     }
     match held.extend_from_slice(&bytes[..fits]) {

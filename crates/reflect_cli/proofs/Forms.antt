@@ -2,7 +2,8 @@
 use Rattle.std.proofs.Common.{◌≡◌, ℕ, suc, ◌+◌, ◌<◌, Bool, true, false, not, ◌&&◌, cond, nat_eq, List, [], ◌∷◌, ◌++◌, length, get_or, drop, refl, sym, ap, ◌∙◌, add-one, drop-cons, true≢false}
 use Rattle.std.specs.List.{list_any}
 use Rattle.reflect_cli.specs.declared.cxx_tree.Declaration.{Declaration}
-use Rattle.reflect_cli.specs.Form.{are_new, names_in}
+use Rattle.reflect_cli.specs.Form.{names_in}
+use Rattle.reflect_cli.specs.Search.{are_new}
 
 module _ (before : List ℕ) (ds : List Declaration) (i : ℕ) (d : Declaration) (h : i < length ds) (e : d ≡ get_or ds i d) where
   rest : drop i ds ≡ d ∷ drop (i + 1) ds

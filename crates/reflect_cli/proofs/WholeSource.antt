@@ -6,7 +6,7 @@ use Rattle.std.specs.Io.KnownBytes.{IsAtEnd}
 use Rattle.io_edge.specs.Edge.{Drops, TellsOn}
 use Rattle.cxx_base.specs.declared.refusal.Code.TheVariants.{L6}
 use Rattle.reflect_cli.specs.Answers.{IsTold}
-use Rattle.reflect_cli.specs.Program.{whole}
+use Rattle.reflect_cli.specs.Program.{source_refusal}
 use Rattle.reflect_cli.specs.Told.{report_of, refused}
 use Rattle.reflect_cli.specs.declared.answer.Answer.{Answer}
 
@@ -17,7 +17,7 @@ drops_all cap (Some xs) None tells end short = absurd tells
 drops_all cap (Some xs) (Some ys) tells end short = end ∙ sym (drop_of_length-le xs (omega (arith, short)))
 
 -- a source that is too long
-pub too_long : (old : Option (List ℕ)) (answer : Answer) → IfSome old (λ xs. 4194304 < length xs) → IsTold (refused (whole L6)) answer
+pub too_long : (old : Option (List ℕ)) (answer : Answer) → IfSome old (λ xs. 4194304 < length xs) → IsTold (refused (source_refusal L6)) answer
     → IfSome old (λ xs. IsTold (report_of xs) answer)
 unfolding report_of
 too_long None answer long told = tt

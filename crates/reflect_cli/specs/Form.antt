@@ -1,5 +1,5 @@
 -- The accepted form: what a list of declarations meets beside the grammar.
-use Rattle.std.specs.Prelude.{ℕ, ◌+◌, Bool, true, not, ◌&&◌, ◌==◌, nat_le, List, [], ◌∷◌, ◌++◌, length, map, sum_by, codes}
+use Rattle.std.specs.Prelude.{ℕ, ◌+◌, Bool, true, not, ◌&&◌, ◌==◌, nat_le, List, [], ◌∷◌, length, map, sum_by, codes}
 use Rattle.std.specs.List.{list_all, list_any}
 use Rattle.cxx_base.specs.Texts.{library_names, number_of}
 use Rattle.reflect_cli.specs.declared.cxx_tree.Chain.{Chain}
@@ -21,14 +21,14 @@ std_number = number_of library_names (codes "std")
 abbrev pub fits : Declaration → Bool
 fits declaration = not (declaration.name.0 == std_number) && nat_le (sum_size declaration.initializer) 256
 
--- no name is one of those before it
-abbrev pub are_new : List ℕ → List ℕ → Bool
-are_new before [] = true
-are_new before (name ∷ names) = not (list_any (λ other. name == other) before) && are_new (before ++ name ∷ []) names
+-- no name stands twice
+abbrev pub are_distinct : List ℕ → Bool
+are_distinct [] = true
+are_distinct (name ∷ names) = not (list_any (λ other. name == other) names) && are_distinct names
 
 abbrev pub names_in : List Declaration → List ℕ
 names_in declarations = map (λ declaration. declaration.name.0) declarations
 
 -- at most 65,536 declarations, which fit, of different names
 unfoldable pub is_in_form : List Declaration → Bool
-is_in_form declarations = nat_le (length declarations) 65536 && (list_all fits declarations && are_new [] (names_in declarations))
+is_in_form declarations = nat_le (length declarations) 65536 && (list_all fits declarations && are_distinct (names_in declarations))

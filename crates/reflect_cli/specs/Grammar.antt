@@ -1,9 +1,11 @@
 -- The grammar of the accepted declarations, after [dcl.constexpr], [expr.add] and [expr.mul]. A rule gives, at the number
 -- of a token, a tree and the number of the token after it, or nothing where none begins there.
-use Rattle.std.specs.Prelude.{ℕ, zero, suc, ◌+◌, Bool, true, false, not, ◌&&◌, ◌==◌, nat_le, if◌then◌else◌, pos, List, [], ◌∷◌, length, Option, Some, None, slice_get}
+use Rattle.std.specs.Prelude.{ℕ, zero, suc, ◌+◌, Bool, true, false, not, ◌&&◌, ◌==◌, if◌then◌else◌, pos, List, [], ◌∷◌, length, Option, Some, None, slice_get}
 use Rattle.std.specs.Option.{option_map}
 use Rattle.cxx_base.specs.declared.names.Name.{Name}
 use Rattle.cxx_base.specs.declared.place.Place.{Place}
+use Rattle.cxx_base.specs.declared.operator.IntKind.TheVariants.{Int}
+use Rattle.int_kinds.specs.Kind.{has_value}
 use Rattle.cxx_tokens.specs.declared.token.Token.{Token}
 use Rattle.cxx_tokens.specs.declared.token.TokenKind.{TokenKind}
 use Rattle.cxx_tokens.specs.declared.token.TokenKind.TheVariants as kind
@@ -52,11 +54,11 @@ is_word word (kind.Punctuator n) = false
 is_word word (kind.Identifier name) = false
 is_word word (kind.Integer decimal unsigned longs n) = false
 
-abbrev pub is_mark : ℕ → TokenKind → Bool
-is_mark mark (kind.Punctuator n) = n == mark
-is_mark mark (kind.Word n) = false
-is_mark mark (kind.Identifier name) = false
-is_mark mark (kind.Integer decimal unsigned longs n) = false
+abbrev pub is_punctuator : ℕ → TokenKind → Bool
+is_punctuator mark (kind.Punctuator n) = n == mark
+is_punctuator mark (kind.Word n) = false
+is_punctuator mark (kind.Identifier name) = false
+is_punctuator mark (kind.Integer decimal unsigned longs n) = false
 
 abbrev pub name_of : TokenKind → Option Name
 name_of (kind.Identifier name) = Some name
@@ -67,7 +69,7 @@ name_of (kind.Integer decimal unsigned longs n) = None
 -- a literal that is of type int without a suffix ([lex.icon])
 abbrev pub literal_of : Place → TokenKind → Option Literal
 literal_of place (kind.Integer decimal unsigned longs n) =
-    if not unsigned && longs == 0 && nat_le n 2147483647 then Some (record { place = place; value = pos n }) else None
+    if not unsigned && longs == 0 && has_value Int (pos n) then Some (record { place = place; value = pos n }) else None
 literal_of place (kind.Word n) = None
 literal_of place (kind.Punctuator n) = None
 literal_of place (kind.Identifier name) = None
@@ -103,8 +105,8 @@ module _ (tokens : List Token) where
   abbrev pub word : ℕ → Rule (Unit {0})
   word n = token (λ t. holds (is_word n t.kind))
 
-  abbrev pub mark : ℕ → Rule (Unit {0})
-  mark n = token (λ t. holds (is_mark n t.kind))
+  abbrev pub punctuator : ℕ → Rule (Unit {0})
+  punctuator n = token (λ t. holds (is_punctuator n t.kind))
 
   abbrev pub identifier : Rule Name
   identifier = token (λ t. name_of t.kind)
@@ -128,18 +130,18 @@ module _ (tokens : List Token) where
   rest_of_chain link first = λ at. let found = many (length tokens) link at in Some (record { first = first; rest = found.0 }, found.1)
 
   -- multiplicative-expression: literals joined by * / %
-  unfoldable pub factor : Rule (Link Literal)
-  factor = link multiplicative literal
+  unfoldable pub multiplicative_link : Rule (Link Literal)
+  multiplicative_link = link multiplicative literal
 
   unfoldable pub product : Rule (Chain Literal)
-  product = literal >>= rest_of_chain factor
+  product = literal >>= rest_of_chain multiplicative_link
 
   -- additive-expression: products joined by + -
-  unfoldable pub term : Rule (Link (Chain Literal))
-  term = link additive product
+  unfoldable pub additive_link : Rule (Link (Chain Literal))
+  additive_link = link additive product
 
   unfoldable pub sum : Rule (Chain (Chain Literal))
-  sum = product >>= rest_of_chain term
+  sum = product >>= rest_of_chain additive_link
 
   -- constexpr int NAME = SUM ;
   unfoldable pub declaration : Rule Declaration
@@ -147,9 +149,9 @@ module _ (tokens : List Token) where
     word CONSTEXPR
     word INT
     name ← identifier
-    mark EQUAL
+    punctuator EQUAL
     initializer ← sum
-    mark SEMICOLON
+    punctuator SEMICOLON
     pure (record { name = name; initializer = initializer })
 
   abbrev pub to_last : List Declaration × ℕ → Option (List Declaration)

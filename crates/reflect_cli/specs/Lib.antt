@@ -1,6 +1,7 @@
 pub mod Grammar
 pub mod Gives
 pub mod Form
+pub mod Search
 pub mod Values
 pub mod Chains
 pub mod Order

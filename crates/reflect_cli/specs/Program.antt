@@ -11,9 +11,9 @@ use Rattle.reflect_cli.specs.Grammar.{unit}
 use Rattle.reflect_cli.specs.declared.cxx_tree.Declaration.{Declaration}
 use Rattle.reflect_cli.specs.declared.program.Program.{Program}
 
--- a refusal of the source as a whole, which stands at its start
-abbrev pub whole : Code → Refusal
-whole code = record { code = code; detail = 0; place = start; inner = None }
+-- a refusal of the source as a source_refusal, which stands at its start
+abbrev pub source_refusal : Code → Refusal
+source_refusal code = record { code = code; detail = 0; place = start; inner = None }
 
 abbrev pub formed : List Text → List Declaration → Option Program
 formed names declarations = if is_in_form declarations then Some (record { names = names; declarations = declarations }) else None

@@ -6,7 +6,7 @@ use Rattle.cxx_base.specs.Texts.{Text}
 use Rattle.cxx_base.specs.declared.refusal.Code.TheVariants.{S1, L6}
 use Rattle.cxx_base.specs.declared.refusal.Refusal.{Refusal}
 use Rattle.reflect_cli.specs.Order.{outcome_of}
-use Rattle.reflect_cli.specs.Program.{program_of, whole}
+use Rattle.reflect_cli.specs.Program.{program_of, source_refusal}
 use Rattle.reflect_cli.specs.Report.{refusal_line, report, is_refused}
 use Rattle.reflect_cli.specs.declared.core_tree.Outcome.{Outcome}
 use Rattle.reflect_cli.specs.declared.program.Program.{Program}
@@ -25,12 +25,12 @@ translated names outcomes =
     record { text = report names outcomes; status = if count_by is_refused outcomes == 0 then 0 else 1 }
 
 abbrev pub answer_by : Option Program → Answer
-answer_by None = refused (whole S1)
+answer_by None = refused (source_refusal S1)
 answer_by (Some program) = translated program.names (map outcome_of program.declarations)
 
 -- the report of a source and its status
 unfoldable pub report_of : Text → Answer
-report_of bytes = if nat_lt 4194304 (length bytes) then refused (whole L6) else answer_by (program_of bytes)
+report_of bytes = if nat_lt 4194304 (length bytes) then refused (source_refusal L6) else answer_by (program_of bytes)
 
 -- the one accepted list of words
 abbrev pub is_in_grammar : List Text → Bool

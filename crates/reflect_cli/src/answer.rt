@@ -8,7 +8,7 @@ ghost use Rattle.reflect_cli.specs.Told as spec;
 
 use crate::core_tree::Outcome;
 use crate::piece_order::translate_in_order;
-use crate::program::{Program, ProgramFault, program_of, whole};
+use crate::program::{Program, ProgramFault, program_of, source_refusal};
 use crate::report_print::{append_last, append_outcome, append_refusal};
 use cxx_base::{Bytes, Code, Memory, Names, Refusal};
 use std::alloc::Global;

@@ -43,7 +43,7 @@ fn operate(place: Place, operator: Arithmetic, left: i128, right: i128) -> Resul
     }
 }
 
-fn factor_value(place: Place, left: i128, link: &Link<Literal>) -> Result<i128, Refused>
+fn literal_link_value(place: Place, left: i128, link: &Link<Literal>) -> Result<i128, Refused>
     requires { IsInRange Int left }
     ensures value { result ≡ chain.link_value place chain.literal_value left link.now }
     ensures in_range { IfOk result (IsInRange Int) }
@@ -57,17 +57,17 @@ fn product_value(product: &Product) -> Result<i128, Refused>
     ensures in_range { IfOk result (IsInRange Int) }
 {
     let first = i128::from(product.first.value);
-    factors_value(product.first.place, first, product.rest.as_slice())
+    literal_links_value(product.first.place, first, product.rest.as_slice())
 }
 
-fn factors_value(place: Place, first: i128, links: &[Link<Literal>]) -> Result<i128, Refused>
+fn literal_links_value(place: Place, first: i128, links: &[Link<Literal>]) -> Result<i128, Refused>
     requires { IsInRange Int first }
     ensures value { result ≡ chain.links_value place chain.literal_value first links.now }
     ensures in_range { IfOk result (IsInRange Int) }
 {
     let mut value = first;
     for link in links {
-        match factor_value(place, value, link) {
+        match literal_link_value(place, value, link) {
             Ok(result) => value = result,
             Err(refused) => return Err(refused),
         }
@@ -83,7 +83,7 @@ pub fn first_token(sum: &Sum) -> Place
     sum.first.first.place
 }
 
-fn term_value(place: Place, left: i128, link: &Link<Product>) -> Result<i128, Refused>
+fn product_link_value(place: Place, left: i128, link: &Link<Product>) -> Result<i128, Refused>
     requires { IsInRange Int left }
     ensures value { result ≡ chain.link_value place spec.product_value left link.now }
     ensures in_range { IfOk result (IsInRange Int) }
@@ -102,19 +102,19 @@ pub fn sum_value(sum: &Sum) -> Result<i128, Refused>
 {
     let place = first_token(sum);
     match product_value(&sum.first) {
-        Ok(first) => terms_value(place, first, sum.rest.as_slice()),
+        Ok(first) => product_links_value(place, first, sum.rest.as_slice()),
         Err(refused) => Err(refused),
     }
 }
 
-fn terms_value(place: Place, first: i128, links: &[Link<Product>]) -> Result<i128, Refused>
+fn product_links_value(place: Place, first: i128, links: &[Link<Product>]) -> Result<i128, Refused>
     requires { IsInRange Int first }
     ensures value { result ≡ chain.links_value place spec.product_value first links.now }
     ensures in_range { IfOk result (IsInRange Int) }
 {
     let mut value = first;
     for link in links {
-        match term_value(place, value, link) {
+        match product_link_value(place, value, link) {
             Ok(result) => value = result,
             Err(refused) => return Err(refused),
         }

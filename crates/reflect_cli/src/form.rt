@@ -3,6 +3,7 @@
 ghost use Rattle.std.specs.Prelude.{◌≡◌, ◌≤◌, true, IfOk, nat_le, [], length};
 ghost use Rattle.std.specs.List.{list_all};
 ghost use Rattle.reflect_cli.specs.Form as spec;
+ghost use Rattle.reflect_cli.specs.Search.{are_new};
 
 use crate::cxx_tree::{Declaration, Sum};
 use cxx_base::{MAX_PIECES, Memory};
@@ -34,7 +35,7 @@ fn fits(declaration: &Declaration) -> bool
 }
 
 fn are_new(alloc: Global, declarations: &[Declaration]) -> Result<bool, Memory>
-    ensures { IfOk result (λ answer. answer ≡ spec.are_new [] (spec.names_in declarations.now)) }
+    ensures { IfOk result (λ answer. answer ≡ are_new [] (spec.names_in declarations.now)) }
 {
     let mut before = IndexSet::new(alloc);
     for declaration in declarations {
@@ -52,7 +53,7 @@ fn all_fit(declarations: &[Declaration]) -> bool
 }
 
 /// Whether the declarations are of the accepted form.
-#[tactic(auto, unfolding(crate::specs::Form::is_in_form))]
+#[tactic(auto, using(crate::proofs::Distinct::new_are_distinct), unfolding(crate::specs::Form::is_in_form))]
 pub fn is_in_form(alloc: Global, declarations: &[Declaration]) -> Result<bool, Memory>
     ensures answer { IfOk result (λ answer. answer ≡ spec.is_in_form declarations.now) }
     ensures few { IfOk result (λ answer. answer ≡ true → length declarations.now ≤ 65536) }

@@ -5,7 +5,7 @@ ghost use Rattle.reflect_cli.specs.Gives.{Gives, GivesMany, GivesUnit};
 ghost use Rattle.reflect_cli.specs.Grammar as spec;
 
 use crate::cxx_tree::Declaration;
-use crate::parse_expr::{ParseFault, identifier_at, mark_at, sum_at, word_at};
+use crate::parse_expr::{ParseFault, identifier_at, punctuator_at, sum_at, word_at};
 use cxx_tokens::{CONSTEXPR, EQUAL, INT, SEMICOLON, Token};
 use sqlite_items::Items;
 use std::alloc::Global;
@@ -23,9 +23,9 @@ fn declaration_at(
     let at = word_at(tokens, CONSTEXPR, at)?;
     let at = word_at(tokens, INT, at)?;
     let (name, at) = identifier_at(tokens, at)?;
-    let at = mark_at(tokens, EQUAL, at)?;
+    let at = punctuator_at(tokens, EQUAL, at)?;
     let (initializer, at) = sum_at(alloc, tokens, at)?;
-    let at = mark_at(tokens, SEMICOLON, at)?;
+    let at = punctuator_at(tokens, SEMICOLON, at)?;
     Ok((Declaration { name, initializer }, at))
 }
 

@@ -37,8 +37,8 @@ fn is_word(kind: TokenKind, word: u32) -> bool
     }
 }
 
-fn is_mark(kind: TokenKind, mark: u32) -> bool
-    ensures { result ≡ spec.is_mark mark kind }
+fn is_punctuator(kind: TokenKind, mark: u32) -> bool
+    ensures { result ≡ spec.is_punctuator mark kind }
 {
     match kind {
         TokenKind::Punctuator(n) => n == mark,
@@ -119,13 +119,13 @@ pub fn word_at(tokens: &[Token], word: u32, at: u32) -> Result<u32, ParseFault>
 }
 
 /// Passes a punctuator.
-pub fn mark_at(tokens: &[Token], mark: u32, at: u32) -> Result<u32, ParseFault>
+pub fn punctuator_at(tokens: &[Token], mark: u32, at: u32) -> Result<u32, ParseFault>
     requires { length tokens.now < 2 ^ 32 }
-    ensures { Passes (spec.mark tokens.now mark at) result }
+    ensures { Passes (spec.punctuator tokens.now mark at) result }
 {
     match tokens.get(at as usize) {
         Some(token) => {
-            if is_mark(token.kind, mark) {
+            if is_punctuator(token.kind, mark) {
                 Ok(at + 1)
             } else {
                 Err(ParseFault::Syntax)
@@ -188,28 +188,28 @@ fn additive_at(tokens: &[Token], at: u32) -> Result<(Arithmetic, u32), ParseFaul
     }
 }
 
-#[tactic(auto, unfolding(crate::specs::Grammar::factor))]
-fn factor_at(tokens: &[Token], at: u32) -> Result<(Link<Literal>, u32), ParseFault>
+#[tactic(auto, unfolding(crate::specs::Grammar::multiplicative_link))]
+fn multiplicative_link_at(tokens: &[Token], at: u32) -> Result<(Link<Literal>, u32), ParseFault>
     requires { length tokens.now < 2 ^ 32 }
-    ensures { Gives (spec.factor tokens.now at) result }
+    ensures { Gives (spec.multiplicative_link tokens.now at) result }
 {
     let (operator, at) = multiplicative_at(tokens, at)?;
     let (operand, at) = literal_at(tokens, at)?;
     Ok((Link { operator, operand }, at))
 }
 
-fn factors_at(
+fn multiplicative_links_at(
     alloc: Global,
     tokens: &[Token],
     start: u32,
 ) -> Result<(Items<Link<Literal>>, u32), ParseFault>
     requires { length tokens.now < 2 ^ 32 }
-    ensures { GivesMany (spec.many (length tokens.now) (spec.factor tokens.now) start) result }
+    ensures { GivesMany (spec.many (length tokens.now) (spec.multiplicative_link tokens.now) start) result }
 {
     let mut found = Items::new(alloc);
     let mut at = start;
     for _turn in 0..tokens.len() {
-        match factor_at(tokens, at) {
+        match multiplicative_link_at(tokens, at) {
             Ok((link, next)) => {
                 found.push(link)?;
                 at = next;
@@ -228,32 +228,36 @@ fn product_at(alloc: Global, tokens: &[Token], at: u32) -> Result<(Product, u32)
     ensures { Gives (spec.product tokens.now at) result }
 {
     let (first, at) = literal_at(tokens, at)?;
-    let (rest, at) = factors_at(alloc, tokens, at)?;
+    let (rest, at) = multiplicative_links_at(alloc, tokens, at)?;
     Ok((Chain { first, rest }, at))
 }
 
-#[tactic(auto, unfolding(crate::specs::Grammar::term))]
-fn term_at(alloc: Global, tokens: &[Token], at: u32) -> Result<(Link<Product>, u32), ParseFault>
+#[tactic(auto, unfolding(crate::specs::Grammar::additive_link))]
+fn additive_link_at(
+    alloc: Global,
+    tokens: &[Token],
+    at: u32,
+) -> Result<(Link<Product>, u32), ParseFault>
     requires { length tokens.now < 2 ^ 32 }
-    ensures { Gives (spec.term tokens.now at) result }
+    ensures { Gives (spec.additive_link tokens.now at) result }
 {
     let (operator, at) = additive_at(tokens, at)?;
     let (operand, at) = product_at(alloc, tokens, at)?;
     Ok((Link { operator, operand }, at))
 }
 
-fn terms_at(
+fn additive_links_at(
     alloc: Global,
     tokens: &[Token],
     start: u32,
 ) -> Result<(Items<Link<Product>>, u32), ParseFault>
     requires { length tokens.now < 2 ^ 32 }
-    ensures { GivesMany (spec.many (length tokens.now) (spec.term tokens.now) start) result }
+    ensures { GivesMany (spec.many (length tokens.now) (spec.additive_link tokens.now) start) result }
 {
     let mut found = Items::new(alloc);
     let mut at = start;
     for _turn in 0..tokens.len() {
-        match term_at(alloc, tokens, at) {
+        match additive_link_at(alloc, tokens, at) {
             Ok((link, next)) => {
                 found.push(link)?;
                 at = next;
@@ -272,6 +276,6 @@ pub fn sum_at(alloc: Global, tokens: &[Token], at: u32) -> Result<(Sum, u32), Pa
     ensures { Gives (spec.sum tokens.now at) result }
 {
     let (first, at) = product_at(alloc, tokens, at)?;
-    let (rest, at) = terms_at(alloc, tokens, at)?;
+    let (rest, at) = additive_links_at(alloc, tokens, at)?;
     Ok((Chain { first, rest }, at))
 }

@@ -38,8 +38,8 @@ impl From<Memory> for ProgramFault {
 }
 
 /// A refusal of the source as a whole, which stands at its start.
-pub fn whole(code: Code) -> Refusal
-    ensures { result ≡ spec.whole code }
+pub fn source_refusal(code: Code) -> Refusal
+    ensures { result ≡ spec.source_refusal code }
 {
     Refusal {
         code,
@@ -63,7 +63,7 @@ fn formed(
             declarations,
         })
     } else {
-        Err(ProgramFault::Refused(whole(Code::S1)))
+        Err(ProgramFault::Refused(source_refusal(Code::S1)))
     }
 }
 
@@ -74,7 +74,7 @@ fn parsed(alloc: Global, names: Names, tokens: &Tokens) -> Result<Program, Progr
 {
     match unit(alloc, tokens.list.as_slice()) {
         Ok(declarations) => formed(alloc, names, declarations),
-        Err(ParseFault::Syntax) => Err(ProgramFault::Refused(whole(Code::S1))),
+        Err(ParseFault::Syntax) => Err(ProgramFault::Refused(source_refusal(Code::S1))),
         Err(ParseFault::Memory) => Err(ProgramFault::Memory),
     }
 }
@@ -90,7 +90,7 @@ pub fn program_of(alloc: Global, bytes: &[u8]) -> Result<Program, ProgramFault>
     match tokens(alloc, &mut names, bytes) {
         Ok(tokens) => parsed(alloc, names, &tokens),
         Err(LexFault::L2(_) | LexFault::L3(_) | LexFault::L5(_)) => {
-            Err(ProgramFault::Refused(whole(Code::S1)))
+            Err(ProgramFault::Refused(source_refusal(Code::S1)))
         }
         Err(LexFault::Memory) => Err(ProgramFault::Memory),
     }

@@ -7,7 +7,7 @@ ghost use Rattle.reflect_cli.specs.Answers.{IsTold};
 ghost use Rattle.reflect_cli.specs.Told.{is_in_grammar, report_of, told};
 
 use crate::answer::{Answer, answer_to, refused};
-use crate::program::whole;
+use crate::program::source_refusal;
 use crate::words::{Command, Words, read_words};
 use cxx_base::{Code, MAX_SOURCE, Memory};
 use io_edge::{ReadAll, Sink, Source, read_all, write_all};
@@ -39,7 +39,7 @@ fn answer_from<S: Source>(alloc: Global, source: &mut S) -> Result<Answer, Unans
 {
     match read_all(alloc, source, MAX_SOURCE) {
         Ok(bytes) => Ok(answer_to(alloc, bytes.as_slice())?),
-        Err(ReadAll::TooLong) => Ok(refused(alloc, whole(Code::L6))?),
+        Err(ReadAll::TooLong) => Ok(refused(alloc, source_refusal(Code::L6))?),
         Err(ReadAll::Fault) => Err(Unanswered::Fault),
         Err(ReadAll::Memory) => Err(Unanswered::Memory),
     }

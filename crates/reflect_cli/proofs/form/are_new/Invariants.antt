@@ -1,5 +1,6 @@
 use Rattle.std.proofs.Common.{◌≡◌, [], drop}
-use Rattle.reflect_cli.specs.Form.{are_new, names_in}
+use Rattle.reflect_cli.specs.Form.{names_in}
+use Rattle.reflect_cli.specs.Search.{are_new}
 use Rattle.reflect_cli.proofs.form.are_new.Given as goal
 
 -- the answer for the names that are left is the answer

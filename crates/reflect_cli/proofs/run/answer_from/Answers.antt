@@ -12,4 +12,4 @@ pub returns-in_ok-refused-in-Err-TooLong-clause-told : goal.returns-in_ok-refuse
 returns-in_ok-refused-in-Err-TooLong-clause-told g c =
     let answer = c.in_ok-refused-in-Err-TooLong.field-0 in
     too_long (g.S.Source.left c.args.source.now) answer (c.in-Err-TooLong.ensures.too_long (ap Err c.in-Err-TooLong.field-0-is))
-    (subst (λ refusal. IsTold (refused refusal) answer) c.whole.ensures c.in_ok-refused-in-Err-TooLong.ensures)
+    (subst (λ refusal. IsTold (refused refusal) answer) c.source_refusal.ensures c.in_ok-refused-in-Err-TooLong.ensures)

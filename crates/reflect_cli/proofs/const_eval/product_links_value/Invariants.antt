@@ -3,7 +3,7 @@ use Rattle.cxx_base.specs.declared.operator.IntKind.TheVariants.{Int}
 use Rattle.int_kinds.specs.Kind.{IsInRange}
 use Rattle.reflect_cli.specs.Chains.{links_value}
 use Rattle.reflect_cli.specs.Values.{product_value}
-use Rattle.reflect_cli.proofs.const_eval.terms_value.Given as goal
+use Rattle.reflect_cli.proofs.const_eval.product_links_value.Given as goal
 
 -- what is left gives the value of all
 abbrev pub invariant-loop-link : goal.invariant-loop-link

@@ -1,8 +1,0 @@
-use Rattle.std.proofs.Common.{◌≡◌, ◌-◌, length}
-use Rattle.reflect_cli.specs.Grammar.{many, factor}
-use Rattle.reflect_cli.proofs.Turns.{behind}
-use Rattle.reflect_cli.proofs.parse_expr.factors_at.Given as goal
-
--- what was found, and then what is still to be found
-abbrev pub invariant-loop-turn : goal.invariant-loop-turn
-invariant-loop-turn l = behind l.found (many (length l.tokens - l._turn) (factor l.tokens) l.at) ≡ many (length l.tokens) (factor l.tokens) l.start
