@@ -1,6 +1,6 @@
 //! The parser of expressions.
 
-ghost use Rattle.std.specs.Prelude.{◌≡◌, ◌+◌, ◌<◌, ◌^◌, length, IfOk, slice_get, option_copied};
+ghost use Rattle.std.specs.Prelude.{◌≡◌, ◌+◌, ◌<◌, ◌^◌, ◌++◌, ◌∷◌, [], length, IfOk, OnOk, OnErr, slice_get, option_copied};
 ghost use Rattle.reflect_cli.specs.Gives.{Gives, GivesMany, Passes};
 ghost use Rattle.reflect_cli.specs.Grammar as spec;
 
@@ -198,6 +198,17 @@ fn multiplicative_link_at(tokens: &[Token], at: u32) -> Result<(Link<Literal>, u
     Ok((Link { operator, operand }, at))
 }
 
+// Puts a link at the end. The first takes room for itself alone: most chains are short.
+fn push<T: Drop>(alloc: Global, links: &mut Items<T>, link: T) -> Result<(), AllocError>
+    ensures ok { OnOk result (links.new ≡ links.old ++ link ∷ []) }
+    ensures err { OnErr result (links.new ≡ links.old) }
+{
+    if links.is_empty() {
+        *links = Items::from_vec(Vec::with_capacity(alloc, 1)?);
+    }
+    links.push(link)
+}
+
 fn multiplicative_links_at(
     alloc: Global,
     tokens: &[Token],
@@ -211,7 +222,7 @@ fn multiplicative_links_at(
     for _turn in 0..tokens.len() {
         match multiplicative_link_at(tokens, at) {
             Ok((link, next)) => {
-                found.push(link)?;
+                push(alloc, &mut found, link)?;
                 at = next;
             }
             Err(ParseFault::Syntax) => return Ok((found, at)),
@@ -259,7 +270,7 @@ fn additive_links_at(
     for _turn in 0..tokens.len() {
         match additive_link_at(alloc, tokens, at) {
             Ok((link, next)) => {
-                found.push(link)?;
+                push(alloc, &mut found, link)?;
                 at = next;
             }
             Err(ParseFault::Syntax) => return Ok((found, at)),
