@@ -1,4 +1,5 @@
 pub mod Division
 pub mod Kind
+pub mod Literal
 pub mod Operate
 pub mod Unspecified

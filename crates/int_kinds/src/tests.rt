@@ -1,5 +1,5 @@
 //! Values at the limits of `int`, of which the greatest is 2147483647 and the least -2147483648.
-use crate::{ArithFault, IntKind, IntOp, apply, greatest, is_in_range, least};
+use crate::{ArithFault, IntKind, IntOp, apply, greatest, is_in_range, least, literal_kind};
 
 #[test]
 fn computes_at_the_limits(rt: HostRuntime) {
@@ -62,5 +62,68 @@ fn has_the_widths(rt: HostRuntime) {
     for (kind, low, high) in table {
         assert_eq!(rt; least(kind), low, "the least of {kind:?}");
         assert_eq!(rt; greatest(kind), high, "the greatest of {kind:?}");
+    }
+}
+
+#[test]
+fn finds_the_kind_of_a_literal(rt: HostRuntime) {
+    use IntKind::{Int, Long, LongLong, UInt, ULong, ULongLong};
+
+    // What [lex.icon] gives for a base and a suffix, at values round the greatest of `int`, 2^31 - 1, of `unsigned`,
+    // 2^32 - 1, of `long`, 2^63 - 1, and of `unsigned long`, 2^64 - 1. (decimal, u, l) comes before the value.
+    let table = [
+        // decimal, without suffix: int, long, long long
+        (true, false, 0, 0, Some(Int)),
+        (true, false, 0, 2147483647, Some(Int)),
+        (true, false, 0, 2147483648, Some(Long)),
+        (true, false, 0, 4294967296, Some(Long)),
+        (true, false, 0, 9223372036854775807, Some(Long)),
+        (true, false, 0, 9223372036854775808, None),
+        (true, false, 0, 18446744073709551615, None),
+        // other bases, without suffix: each kind from int on
+        (false, false, 0, 2147483647, Some(Int)),
+        (false, false, 0, 2147483648, Some(UInt)),
+        (false, false, 0, 4294967295, Some(UInt)),
+        (false, false, 0, 4294967296, Some(Long)),
+        (false, false, 0, 9223372036854775807, Some(Long)),
+        (false, false, 0, 9223372036854775808, Some(ULong)),
+        (false, false, 0, 18446744073709551615, Some(ULong)),
+        // u: the unsigned kinds, in each base
+        (true, true, 0, 0, Some(UInt)),
+        (true, true, 0, 4294967295, Some(UInt)),
+        (true, true, 0, 4294967296, Some(ULong)),
+        (true, true, 0, 18446744073709551615, Some(ULong)),
+        (false, true, 0, 2147483647, Some(UInt)),
+        (false, true, 0, 4294967296, Some(ULong)),
+        (false, true, 0, 18446744073709551615, Some(ULong)),
+        // l: long and long long, and in other bases the unsigned ones between them
+        (true, false, 1, 0, Some(Long)),
+        (true, false, 1, 9223372036854775807, Some(Long)),
+        (true, false, 1, 9223372036854775808, None),
+        (false, false, 1, 0, Some(Long)),
+        (false, false, 1, 9223372036854775808, Some(ULong)),
+        (false, false, 1, 18446744073709551615, Some(ULong)),
+        // ul
+        (true, true, 1, 0, Some(ULong)),
+        (true, true, 1, 18446744073709551615, Some(ULong)),
+        (false, true, 1, 4294967295, Some(ULong)),
+        // ll: long long alone, and in other bases also unsigned long long
+        (true, false, 2, 0, Some(LongLong)),
+        (true, false, 2, 9223372036854775807, Some(LongLong)),
+        (true, false, 2, 9223372036854775808, None),
+        (false, false, 2, 9223372036854775807, Some(LongLong)),
+        (false, false, 2, 9223372036854775808, Some(ULongLong)),
+        // ull
+        (true, true, 2, 0, Some(ULongLong)),
+        (true, true, 2, 18446744073709551615, Some(ULongLong)),
+        (false, true, 2, 18446744073709551615, Some(ULongLong)),
+    ];
+    for (decimal, unsigned, longs, n, want) in table {
+        assert!(rt; longs <= 2);
+        assert_eq!(rt;
+            literal_kind(decimal, unsigned, longs, n),
+            want,
+            "{decimal} {unsigned} {longs} {n}"
+        );
     }
 }
