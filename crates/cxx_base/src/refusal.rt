@@ -6,9 +6,10 @@ use crate::place::Place;
 /// T types, V evaluation, M reflection, R a piece that is read. L, S and P refuse the source as a whole.
 #[derive(Clone, Copy, Debug, PartialEq, Eq, Hash)]
 pub enum Code {
-    /// The source is not UTF-8 ([lex.phases]).
+    /// A byte of the source begins no character of UTF-8 ([lex.phases]).
     L1,
-    /// No token begins here ([lex.pptoken]), or the literal here is out of form ([lex.icon], [lex.ccon], [lex.string]).
+    /// No token begins here ([lex.pptoken]), the literal here is out of form ([lex.icon], [lex.ccon], [lex.string]), or a
+    /// `#` begins no line that is skipped ([cpp.pre]).
     L2,
     /// No type of an integer literal's list holds its value ([lex.icon]).
     L3,
@@ -20,13 +21,14 @@ pub enum Code {
     L6,
     /// The tokens are not derived by the grammar.
     S1,
-    /// Trees are nested in more than 256 levels.
+    /// The source is nested in more than 256 levels.
     S2,
     /// The source has more than 65,536 pieces.
     P1,
     /// Lookup finds no declaration of a name ([basic.lookup]), or `this` has no meaning here ([expr.prim.this]).
     N1,
-    /// A scope has a second declaration of a name, or a second definition ([basic.scope.scope], [basic.def.odr]).
+    /// A name is declared again in its scope, or defined again, where it may not be ([basic.scope.scope],
+    /// [basic.def.odr]).
     N2,
     /// A name is found, but what it names is of another kind than has to stand here.
     N3,
@@ -47,12 +49,12 @@ pub enum Code {
     T5,
     /// A conversion in a braced list is narrowing ([dcl.init.list]).
     T6,
-    /// An object of a consteval-only type is neither constexpr nor local to an immediate function (P2996R13,
-    /// [basic.types.general]).
+    /// An object of a consteval-only type is no constexpr variable, and no parameter or local variable of a consteval
+    /// function or block (P2996R13, [basic.types.general]).
     T7,
-    /// The subset lacks this declaration: a const variable of a scope that is not constexpr, a constexpr one whose type
-    /// has a written destructor in it, a reference that is a data member or such a variable, a vector of another type
-    /// than `std::meta::info`.
+    /// The subset lacks this declaration: a static variable that is const and not constexpr, a constexpr variable whose
+    /// type has a written destructor in it, a reference as a data member or a static variable, or a vector of another
+    /// type than `std::meta::info`.
     T8,
     /// The bound of an array is not from 1 to 2^31 - 1 ([dcl.array]).
     T9,
@@ -78,7 +80,7 @@ pub enum Code {
     V9,
     /// The result points to an object that does not outlast the evaluation ([expr.const]).
     V10,
-    /// Two pointers are not into one object, so that they are not compared or subtracted ([expr.rel], [expr.eq], [expr.add]).
+    /// Two pointers into different objects are compared or subtracted ([expr.rel], [expr.eq], [expr.add]).
     V11,
     /// The evaluation would take more steps than its limit.
     V12,

@@ -5,7 +5,6 @@ pub mod Search
 pub mod Values
 pub mod Chains
 pub mod Order
-pub mod Texts
 pub mod Report
 pub mod Program
 pub mod Told

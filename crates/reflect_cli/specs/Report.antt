@@ -5,8 +5,10 @@ use Rattle.std.specs.List.{flat_map, count_by}
 use Rattle.cxx_base.specs.Texts.{Text}
 use Rattle.cxx_base.specs.declared.names.Name.{Name}
 use Rattle.cxx_base.specs.declared.place.Place.{Place}
+use Rattle.cxx_base.specs.declared.refusal.Code.{Code}
+use Rattle.cxx_base.specs.declared.refusal.Code.TheVariants.{R1}
 use Rattle.cxx_base.specs.declared.refusal.Refusal.{Refusal}
-use Rattle.reflect_cli.specs.Texts.{code_name, text}
+use Rattle.diagnostics.specs.Texts.{code_name, text}
 use Rattle.reflect_cli.specs.declared.core_tree.Outcome.{Outcome}
 use Rattle.reflect_cli.specs.declared.core_tree.Outcome.TheVariants.{Constant, Refused}
 
@@ -19,10 +21,19 @@ abbrev pub inner_text : Option Place → Text
 inner_text None = []
 inner_text (Some place) = codes " (at " ++ place_text place ++ codes ")"
 
+-- the refused piece that was read, as `piece 7`: the text of its code goes on from it
+abbrev pub subject : Code → ℕ → Text
+subject R1 piece = codes "piece " ++ decimal piece
+subject code detail = []
+
+-- what the report says of a refusal behind its code
+unfoldable pub message : Refusal → Text
+message refusal = subject refusal.code refusal.detail ++ text refusal.code refusal.detail
+
 -- PLACE: error CODE: TEXT
 unfoldable pub refusal_line : Refusal → Text
 refusal_line refusal =
-    place_text refusal.place ++ codes ": error " ++ code_name refusal.code ++ codes ": " ++ text refusal.code refusal.detail
+    place_text refusal.place ++ codes ": error " ++ code_name refusal.code ++ codes ": " ++ message refusal
     ++ inner_text refusal.inner ++ codes "\n"
 
 -- the text of a name

@@ -5,7 +5,6 @@ mod answer;
 mod const_eval;
 mod core_tree;
 mod cxx_tree;
-mod diagnostics;
 mod form;
 mod parse_decl;
 mod parse_expr;

@@ -5,8 +5,8 @@ ghost use Rattle.std.specs.Fmt.{signed_decimal};
 ghost use Rattle.reflect_cli.specs.Report as spec;
 
 use crate::core_tree::Outcome;
-use crate::diagnostics::{name, text};
-use cxx_base::{Bytes, Memory, Name, Names, Place, Refusal};
+use cxx_base::{Bytes, Code, Memory, Name, Names, Place, Refusal};
+use diagnostics::{name, text};
 use itoa::Buffer;
 
 fn append_text(out: &mut Bytes, text: &str) -> Result<(), Memory>
@@ -15,7 +15,7 @@ fn append_text(out: &mut Bytes, text: &str) -> Result<(), Memory>
     out.extend(text.as_bytes())
 }
 
-fn append_number(out: &mut Bytes, number: u32) -> Result<(), Memory>
+fn append_number(out: &mut Bytes, number: u64) -> Result<(), Memory>
     ensures { OnOk result (out.new ≡ out.old ++ decimal number) }
 {
     let mut buffer = Buffer::new();
@@ -32,9 +32,9 @@ fn append_value(out: &mut Bytes, value: i128) -> Result<(), Memory>
 fn append_place(out: &mut Bytes, place: Place) -> Result<(), Memory>
     ensures { OnOk result (out.new ≡ out.old ++ spec.place_text place) }
 {
-    append_number(out, place.line)?;
+    append_number(out, u64::from(place.line))?;
     append_text(out, ":")?;
-    append_number(out, place.column)
+    append_number(out, u64::from(place.column))
 }
 
 fn append_inner(out: &mut Bytes, inner: Option<Place>) -> Result<(), Memory>
@@ -50,6 +50,27 @@ fn append_inner(out: &mut Bytes, inner: Option<Place>) -> Result<(), Memory>
     }
 }
 
+// The refused piece that was read, from which the text of its code goes on.
+fn append_subject(out: &mut Bytes, refusal: &Refusal) -> Result<(), Memory>
+    ensures { OnOk result (out.new ≡ out.old ++ spec.subject refusal.now.code refusal.now.detail) }
+{
+    match refusal.code {
+        Code::R1 => {
+            append_text(out, "piece ")?;
+            append_number(out, refusal.detail)
+        }
+        _ => Ok(()),
+    }
+}
+
+#[tactic(auto, unfolding(crate::specs::Report::message))]
+fn append_message(out: &mut Bytes, refusal: &Refusal) -> Result<(), Memory>
+    ensures { OnOk result (out.new ≡ out.old ++ spec.message refusal.now) }
+{
+    append_subject(out, refusal)?;
+    append_text(out, text(refusal))
+}
+
 /// The line of a refusal.
 #[tactic(auto, unfolding(crate::specs::Report::refusal_line))]
 pub fn append_refusal(out: &mut Bytes, refusal: &Refusal) -> Result<(), Memory>
@@ -59,7 +80,7 @@ pub fn append_refusal(out: &mut Bytes, refusal: &Refusal) -> Result<(), Memory>
     append_text(out, ": error ")?;
     append_text(out, name(refusal.code))?;
     append_text(out, ": ")?;
-    append_text(out, text(refusal))?;
+    append_message(out, refusal)?;
     append_inner(out, refusal.inner)?;
     append_text(out, "\n")
 }
@@ -101,8 +122,8 @@ pub fn append_last(out: &mut Bytes, pieces: u32, refused: u32) -> Result<(), Mem
     ensures { OnOk result (out.new ≡ out.old ++ spec.last_line pieces refused) }
 {
     append_text(out, "pieces ")?;
-    append_number(out, pieces)?;
+    append_number(out, u64::from(pieces))?;
     append_text(out, " refused ")?;
-    append_number(out, refused)?;
+    append_number(out, u64::from(refused))?;
     append_text(out, "\n")
 }

@@ -1,8 +1,9 @@
 //! Tests of the top call over sources and sinks in memory.
 
+use crate::report_print::append_refusal;
 use crate::run::run_in_order;
 use crate::words::Words;
-use cxx_base::{Bytes, MAX_SOURCE, Memory};
+use cxx_base::{Bytes, Code, MAX_SOURCE, Memory, Place, Refusal};
 use io_edge::{CallList, MemSink, MemSource};
 use std::alloc::Global;
 use std::test::Fail;
@@ -242,6 +243,54 @@ const LIMITS: [(&str, &str, usize, &str, &str); 8] = [
     (A, " ", MAX_SOURCE - 29, "", "pieces 1 refused 0\n"),
     (A, " ", MAX_SOURCE - 28, "", TOO_LONG),
 ];
+
+/// A code, a detail, whether the refusal was met in an evaluation, and its line at line 3 and column 19, in an evaluation
+/// at line 4 and column 1.
+const LINES: [(Code, u64, bool, &str); 5] = [
+    (Code::R1, 0, false, "3:19: error R1: piece 0 is refused\n"),
+    (
+        Code::R1,
+        65535,
+        true,
+        "3:19: error R1: piece 65535 is refused (at 4:1)\n",
+    ),
+    (Code::N1, 0, false, "3:19: error N1: name is not declared\n"),
+    (
+        Code::V1,
+        2,
+        true,
+        "3:19: error V1: least value divided by -1 (at 4:1)\n",
+    ),
+    (
+        Code::V14,
+        7,
+        true,
+        "3:19: error V14: function ended without a value (at 4:1)\n",
+    ),
+];
+
+#[test]
+fn lines_of_refusals(rt: HostRuntime) -> Result<(), Fail> {
+    for (code, detail, is_inner, line) in LINES {
+        let mut out = Bytes::new(rt.alloc());
+        let refusal = Refusal {
+            code,
+            detail,
+            place: Place {
+                line: 3,
+                column: 19,
+            },
+            inner: if is_inner {
+                Some(Place { line: 4, column: 1 })
+            } else {
+                None
+            },
+        };
+        append_refusal(&mut out, &refusal)?;
+        assert_eq!(rt; out.as_slice(), line.as_bytes(), "the line of {code:?}");
+    }
+    Ok(())
+}
 
 #[test]
 fn limits_are_exact(rt: HostRuntime) -> Result<(), Fail> {

@@ -1,0 +1,10 @@
+//! The names and the texts of refusals.
+#![tactic(auto)]
+
+mod code_name;
+#[cfg(test)]
+mod tests;
+mod texts;
+
+pub use code_name::name;
+pub use texts::text;
