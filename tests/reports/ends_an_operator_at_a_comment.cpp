@@ -1,0 +1,2 @@
+constexpr int a = 4 //**/ 2
+/ 2;

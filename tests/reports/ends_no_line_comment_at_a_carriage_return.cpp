@@ -1,0 +1,2 @@
+// one@
+constexpr int a = 1;

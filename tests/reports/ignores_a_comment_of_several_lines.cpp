@@ -1,0 +1,4 @@
+/* 1
+   2
+   3 */
+constexpr int a = 1;

@@ -1,0 +1,3 @@
+// it's "
+/* ' " */
+constexpr int a = 1;

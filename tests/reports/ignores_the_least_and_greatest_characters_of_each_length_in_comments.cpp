@@ -1,0 +1,2 @@
+// ߿ࠀ퟿￿𐀀􏿿
+constexpr int a = 1;

@@ -1,0 +1,2 @@
+%:include <meta> @
+constexpr int a = 1;

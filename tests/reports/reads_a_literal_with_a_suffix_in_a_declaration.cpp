@@ -1,0 +1,1 @@
+constexpr unsigned long long a = 1ull;

@@ -1,0 +1,1 @@
+constexpr int a = 01234567;

@@ -1,0 +1,1 @@
+0u 07ul 0x1fULL 0b1LLU 0l 00ll

@@ -1,0 +1,2 @@
+const\
+expr int a = 1;

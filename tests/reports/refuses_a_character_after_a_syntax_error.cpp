@@ -1,0 +1,2 @@
+constexpr constexpr int a 1 1
+;; @

@@ -1,0 +1,1 @@
+constexpr int o ̈ = 1;

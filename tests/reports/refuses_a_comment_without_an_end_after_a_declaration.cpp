@@ -1,0 +1,3 @@
+constexpr int a = 1; /* one
+
+

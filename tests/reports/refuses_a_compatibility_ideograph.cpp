@@ -1,0 +1,1 @@
+constexpr int 豈 = 1;

@@ -1,0 +1,1 @@
+constexpr int K = 1;

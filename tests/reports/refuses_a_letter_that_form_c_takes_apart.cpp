@@ -1,0 +1,1 @@
+constexpr int क़ = 1;

@@ -1,0 +1,1 @@
+constexpr int ͺ = 1;

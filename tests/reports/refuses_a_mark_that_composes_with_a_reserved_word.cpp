@@ -1,0 +1,1 @@
+constexpr inté a = 1;

@@ -1,0 +1,3 @@
+# 1 "a
+.cpp"
+constexpr int a = 1;

@@ -1,0 +1,2 @@
+# 1 "a.cpp" // one
+constexpr int a = 1;

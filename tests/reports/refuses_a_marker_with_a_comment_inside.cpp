@@ -1,0 +1,2 @@
+# 1 /* one */ "a.cpp"
+constexpr int a = 1;

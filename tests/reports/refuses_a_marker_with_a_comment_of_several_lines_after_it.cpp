@@ -1,0 +1,3 @@
+# 1 "a.cpp" /* one
+ */
+constexpr int a = 1;

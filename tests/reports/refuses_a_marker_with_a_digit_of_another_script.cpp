@@ -1,0 +1,2 @@
+# ١ "a.cpp"
+constexpr int a = 1;

@@ -1,0 +1,2 @@
+# 0x1 "a.cpp"
+constexpr int a = 1;

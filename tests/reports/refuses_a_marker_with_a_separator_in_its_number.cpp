@@ -1,0 +1,2 @@
+# 1'0 "a.cpp"
+constexpr int a = 1;

@@ -1,0 +1,2 @@
+# 1u "a.cpp"
+constexpr int a = 1;

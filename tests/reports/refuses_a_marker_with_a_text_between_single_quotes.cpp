@@ -1,0 +1,2 @@
+# 1 'a'
+constexpr int a = 1;

@@ -1,0 +1,2 @@
+# 1 "a\"b"
+constexpr int a = 1;

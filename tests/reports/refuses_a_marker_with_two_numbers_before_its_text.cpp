@@ -1,0 +1,2 @@
+# 1 2 "a.cpp"
+constexpr int a = 1;

@@ -1,0 +1,2 @@
+# 1 "a.cpp" "b.cpp"
+constexpr int a = 1;

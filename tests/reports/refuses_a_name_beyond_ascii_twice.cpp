@@ -1,0 +1,2 @@
+constexpr int é = 1;
+constexpr int é = 2;

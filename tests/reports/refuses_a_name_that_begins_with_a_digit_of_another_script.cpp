@@ -1,0 +1,1 @@
+constexpr int ٣a = 1;

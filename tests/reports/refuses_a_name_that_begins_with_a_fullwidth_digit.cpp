@@ -1,0 +1,1 @@
+constexpr int １a = 1;

@@ -1,0 +1,1 @@
+﻿constexpr int ö = 1;

@@ -1,0 +1,3 @@
+# 1 "a.cpp"
+#include <meta>
+constexpr int größe = 3;

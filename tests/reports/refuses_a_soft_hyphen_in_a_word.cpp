@@ -1,0 +1,1 @@
+constexpr int a­b = 1;

@@ -1,0 +1,2 @@
+constexpr const char* a = "b
+c";

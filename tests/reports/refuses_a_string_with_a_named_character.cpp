@@ -1,0 +1,1 @@
+constexpr const char* a = "\N{LATIN SMALL LETTER A}";

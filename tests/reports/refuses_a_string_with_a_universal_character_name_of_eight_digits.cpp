@@ -1,0 +1,1 @@
+constexpr const char* a = "\U00000041";

@@ -1,0 +1,1 @@
+constexpr int \u0061 = 1;

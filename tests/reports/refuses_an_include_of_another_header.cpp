@@ -1,0 +1,2 @@
+#include <vector>
+constexpr int a = 1;

@@ -1,0 +1,2 @@
+#include
+constexpr int a = 1;

@@ -1,0 +1,3 @@
+#include
+<meta>
+constexpr int a = 1;

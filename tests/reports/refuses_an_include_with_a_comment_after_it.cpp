@@ -1,0 +1,2 @@
+#include <meta> // one
+constexpr int a = 1;

@@ -1,0 +1,2 @@
+#include /* one */ <meta>
+constexpr int a = 1;

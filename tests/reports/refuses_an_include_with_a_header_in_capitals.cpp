@@ -1,0 +1,2 @@
+#include <META>
+constexpr int a = 1;

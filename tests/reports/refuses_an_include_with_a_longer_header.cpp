@@ -1,0 +1,2 @@
+#include <meta.h>
+constexpr int a = 1;

@@ -1,0 +1,2 @@
+#includes <meta>
+constexpr int a = 1;

@@ -1,0 +1,2 @@
+#include <meta> 1
+constexpr int a = 1;

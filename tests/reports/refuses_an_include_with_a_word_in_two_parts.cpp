@@ -1,0 +1,2 @@
+#in clude <meta>
+constexpr int a = 1;

@@ -1,0 +1,1 @@
+constexpr int Ω = 1;

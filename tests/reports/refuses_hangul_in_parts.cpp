@@ -1,0 +1,1 @@
+constexpr int 한 = 1;

@@ -1,0 +1,1 @@
+ÿconstexpr int a = 1;

@@ -1,0 +1,2 @@
+/* one
+ two ÿ */constexpr int a = 1;

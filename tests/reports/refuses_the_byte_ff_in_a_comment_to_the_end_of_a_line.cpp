@@ -1,0 +1,2 @@
+// one ÿ
+constexpr int a = 1;

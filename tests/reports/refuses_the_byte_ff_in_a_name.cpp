@@ -1,0 +1,1 @@
+constexpr int aÿ = 1;

@@ -1,0 +1,2 @@
+#line 1 "a.cpp"
+constexpr int a = 1;

@@ -1,0 +1,2 @@
+#pragma once
+constexpr int a = 1;

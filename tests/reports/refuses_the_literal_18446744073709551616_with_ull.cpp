@@ -1,0 +1,1 @@
+constexpr int a = 18446744073709551616ull;

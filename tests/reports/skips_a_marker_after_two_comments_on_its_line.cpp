@@ -1,0 +1,3 @@
+/* one *//* two
+*//* three */# 1 "a.cpp"
+constexpr int a = 1;

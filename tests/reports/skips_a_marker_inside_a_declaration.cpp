@@ -1,0 +1,3 @@
+constexpr int
+# 1 "a.cpp"
+a = 1;

@@ -1,0 +1,2 @@
+# 1 "a\" 2
+constexpr int a = 1;

@@ -1,0 +1,2 @@
+# 1 "größe€😀ö.cpp"
+constexpr int a = 1;

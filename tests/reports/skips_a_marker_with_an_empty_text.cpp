@@ -1,0 +1,2 @@
+# 1 ""
+constexpr int a = 1;

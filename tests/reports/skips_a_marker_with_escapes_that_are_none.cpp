@@ -1,0 +1,2 @@
+# 1 "C:\q\400\x"
+constexpr int a = 1;

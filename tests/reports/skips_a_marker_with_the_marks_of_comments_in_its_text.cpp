@@ -1,0 +1,2 @@
+# 1 "a//b/*c*/ '#"
+constexpr int a = 1;

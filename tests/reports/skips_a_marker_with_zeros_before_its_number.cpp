@@ -1,0 +1,2 @@
+# 007 "a.cpp"
+constexpr int a = 1;

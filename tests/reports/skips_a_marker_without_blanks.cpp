@@ -1,0 +1,2 @@
+#1"a.cpp"3
+constexpr int a = 1;

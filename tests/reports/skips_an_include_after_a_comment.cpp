@@ -1,0 +1,2 @@
+/* one */ #include <meta>
+constexpr int a = 1;

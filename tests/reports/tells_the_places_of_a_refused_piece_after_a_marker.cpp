@@ -1,0 +1,2 @@
+# 100 "größe.cpp" 2
+constexpr int a = 1 / 0;

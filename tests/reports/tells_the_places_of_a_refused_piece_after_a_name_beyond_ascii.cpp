@@ -1,0 +1,1 @@
+constexpr int größe = 1 + 1 / 0;

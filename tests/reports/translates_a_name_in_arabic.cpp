@@ -1,0 +1,1 @@
+constexpr int حجم = 1;

@@ -1,0 +1,1 @@
+constexpr int размер = 1;

@@ -1,0 +1,1 @@
+constexpr int आकार = 1;

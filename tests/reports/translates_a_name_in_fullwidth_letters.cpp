@@ -1,0 +1,1 @@
+constexpr int ＡＢ = 1;

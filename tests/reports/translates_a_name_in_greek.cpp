@@ -1,0 +1,1 @@
+constexpr int μέγεθος = 1;

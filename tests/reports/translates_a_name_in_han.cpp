@@ -1,0 +1,1 @@
+constexpr int 大小 = 1;

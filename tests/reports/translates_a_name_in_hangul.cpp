@@ -1,0 +1,1 @@
+constexpr int 크기 = 1;

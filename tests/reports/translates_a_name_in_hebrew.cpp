@@ -1,0 +1,1 @@
+constexpr int גודל = 1;

@@ -1,0 +1,1 @@
+constexpr int おおきさ = 1;

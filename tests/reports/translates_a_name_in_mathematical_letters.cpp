@@ -1,0 +1,1 @@
+constexpr int 𝒜𝒷 = 1;

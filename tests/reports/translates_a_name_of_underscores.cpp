@@ -1,0 +1,1 @@
+constexpr int __ = 1;

@@ -1,0 +1,1 @@
+constexpr int ﬁ = 1;

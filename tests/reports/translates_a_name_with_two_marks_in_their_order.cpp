@@ -1,0 +1,1 @@
+constexpr int q̣̇ = 1;

@@ -1,0 +1,1 @@
+constexpr int inté = 1;

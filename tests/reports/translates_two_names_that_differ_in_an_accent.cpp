@@ -1,0 +1,2 @@
+constexpr int e = 1;
+constexpr int é = 2;

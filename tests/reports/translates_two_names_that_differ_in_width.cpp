@@ -1,0 +1,2 @@
+constexpr int A = 1;
+constexpr int Ａ = 2;
