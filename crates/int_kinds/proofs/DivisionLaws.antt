@@ -1,17 +1,18 @@
 -- The laws of division.
-use Rattle.std.proofs.Common.{◌≡◌, ◌≢◌, ◌⊎◌, inl, inr, ◌%◌, ◌^◌, ◌-◌, ◌<◌, ◌≤◌, ℤ, pos, negsuc, ◌+ℤ◌, ◌≤ℤ◌, int_div, int_rem, unsigned_abs, Option, Some, None, Ok, Err, arith, sym, ◌∙◌, ap, subst, refl}
-use Rattle.std.proofs.Math.Nat.{mod-le}
+use Rattle.std.proofs.Common.{◌≡◌, ◌≢◌, ◌⊎◌, inl, inr, ◌%◌, ◌^◌, ◌-◌, ◌<◌, ◌≤◌, ℕ, suc, Bool as Test, true, false, ℤ, pos, negsuc, ◌+ℤ◌, ◌≤ℤ◌, int_div, int_rem, unsigned_abs, Option, Some, None, Ok, Err, arith, sym, ◌∙◌, ap, subst, refl}
+use Rattle.std.proofs.Math.Nat.{mod-le, div-one}
 use Rattle.std.proofs.Math.IntN.{*ℤ_comm}
 use Rattle.std.proofs.lemmas.Int.{ints, quot-rem, rem_below}
+use Rattle.std.proofs.lemmas.Nat.{pow_pos}
+use Rattle.std.proofs.lemmas.Bool.{false≢true}
 use Rattle.std.proofs.lemmas.Bool.Decides.{nat_tests, Decides-int_eq}
-use Rattle.cxx_base.specs.declared.operator.IntKind.{IntKind}
-use Rattle.cxx_base.specs.declared.operator.IntKind.TheVariants.{Int}
 use Rattle.int_kinds.specs.declared.fault.ArithFault.{ArithFault}
 use Rattle.int_kinds.specs.declared.fault.ArithFault.TheVariants.{LeastByMinusOne}
-use Rattle.int_kinds.specs.Kind.{least_of, IsInRange}
-use Rattle.int_kinds.specs.Operate.{division_fault, value_unless}
+use Rattle.int_kinds.specs.Kind.{width_of, is_signed, least_at, IsInRangeAt}
+use Rattle.int_kinds.specs.Operate.{division_fault_at, value_unless}
 use Rattle.int_kinds.specs.Division.{FitTogether, DivisionIsWhole, RefusesOnlyBeyondRange}
-use Rattle.int_kinds.proofs.Division.{quotient_fits, not_zero}
+use Rattle.int_kinds.proofs.Division.{not_zero}
+use Rattle.int_kinds.proofs.Ranges.{quotient_in_range}
 
 -- a value comes only where there is no fault
 value_unless_ok :
@@ -42,30 +43,12 @@ fit_together a b ne = record {
 }
 
 pub division_is_whole : DivisionIsWhole
-division_is_whole Int a b quotient remainder ready divided reduced =
-    let d : (division_fault Int a b ≡ None) × (int_div a b ≡ quotient) =
-    value_unless_ok (division_fault Int a b) (int_div a b) quotient divided in
-    let r : (division_fault Int a b ≡ None) × (int_rem a b ≡ remainder) =
-    value_unless_ok (division_fault Int a b) (int_rem a b) remainder reduced in
+division_is_whole kind a b quotient remainder divided reduced =
+    let fault : Option ArithFault = division_fault_at (width_of kind) (is_signed kind) a b in
+    let d : (fault ≡ None) × (int_div a b ≡ quotient) = value_unless_ok fault (int_div a b) quotient divided in
+    let r : (fault ≡ None) × (int_rem a b ≡ remainder) = value_unless_ok fault (int_rem a b) remainder reduced in
     subst (λ n. FitTogether a b n remainder) d.1
-    (subst (λ n. FitTogether a b (int_div a b) n) r.1 (fit_together a b (not_zero Int a b d.0)))
-division_is_whole kind a b quotient remainder ready divided reduced = cc
-
--- what the tests of a division say
-fault_means :
-    (kind : IntKind) (a b : ℤ) → division_fault kind a b ≡ Some LeastByMinusOne
-    → (a ≡ least_of kind) × (b ≡ negsuc 0)
-fault_means kind a b e = grind (arith, nat_tests, Decides-int_eq)
-
-fault_comes :
-    (kind : IntKind) (a b : ℤ) → a ≡ least_of kind → b ≡ negsuc 0
-    → division_fault kind a b ≡ Some LeastByMinusOne
-fault_comes kind a b least minus_one = grind (arith, nat_tests, Decides-int_eq)
-
-either :
-    (kind : IntKind) (a b : ℤ)
-    → ((a ≡ least_of kind) × (b ≡ negsuc 0)) ⊎ (a ≡ least_of kind → b ≢ negsuc 0)
-either kind a b = grind (arith, nat_tests, Decides-int_eq)
+    (subst (λ n. FitTogether a b (int_div a b) n) r.1 (fit_together a b (not_zero (width_of kind) (is_signed kind) a b d.0)))
 
 -- a fault is what `/` gives
 value_unless_err :
@@ -73,21 +56,41 @@ value_unless_err :
 value_unless_err None n f e = cc
 value_unless_err (Some g) n f e = cc
 
+-- what the tests of a division say
+fault_means :
+    (bits : ℕ) (signed : Test) (a b : ℤ) → division_fault_at bits signed a b ≡ Some LeastByMinusOne
+    → (signed ≡ true) × (a ≡ least_at bits signed) × (b ≡ negsuc 0)
+fault_means bits true a b e = let h : (a ≡ least_at bits true) × (b ≡ negsuc 0) = grind (arith, nat_tests, Decides-int_eq) in (refl, h.0, h.1)
+fault_means bits false a b e = absurd (grind (arith, nat_tests, Decides-int_eq))
+
+-- where the divisor is not 0, either that fault comes or none
+either :
+    (bits : ℕ) (signed : Test) (a b : ℤ) → b ≢ pos 0
+    → (division_fault_at bits signed a b ≡ Some LeastByMinusOne) ⊎ (division_fault_at bits signed a b ≡ None)
+either bits true a b nonzero = grind (arith, nat_tests, Decides-int_eq)
+either bits false a b nonzero = grind (arith, nat_tests, Decides-int_eq)
+
 -- the quotient of the least value by -1 is beyond the greatest value
-beyond : (a b : ℤ) → a ≡ least_of Int → b ≡ negsuc 0 → ¬ IsInRange Int (int_div a b)
-beyond a b least minus_one within =
-    let e : int_div a b ≡ pos (2 ^ 31) =
-    ap (λ n. int_div n b) least ∙ ap (int_div (least_of Int)) minus_one in
-    omega (arith, ints)
+beyond : (bits : ℕ) (a b : ℤ) → a ≡ least_at bits true → b ≡ negsuc 0 → ¬ IsInRangeAt bits true (int_div a b)
+beyond bits (pos a) b least minus_one within =
+    let some : 0 < 2 ^ (bits - 1) = pow_pos (bits - 1) in absurd (omega (arith, ints))
+beyond bits (negsuc a) b least minus_one within =
+    let some : 0 < 2 ^ (bits - 1) = pow_pos (bits - 1) in
+    let e : int_div (negsuc a) b ≡ pos (suc a) = ap (int_div (negsuc a)) minus_one ∙ ap pos (div-one (suc a)) in
+    omega (arith, ints, within.1)
+
+refused_beyond :
+    (bits : ℕ) (signed : Test) (a b : ℤ) → division_fault_at bits signed a b ≡ Some LeastByMinusOne
+    → ¬ IsInRangeAt bits signed (int_div a b)
+refused_beyond bits true a b fault = let m = fault_means bits true a b fault in beyond bits a b m.1 m.2
+refused_beyond bits false a b fault = let m = fault_means bits false a b fault in absurd (false≢true m.0)
 
 pub refuses_only_beyond_range : RefusesOnlyBeyondRange
-refuses_only_beyond_range Int a b ready within nonzero = (
-  λ refused.
-      let fault = value_unless_err (division_fault Int a b) (int_div a b) LeastByMinusOne refused in
-      let m : (a ≡ least_of Int) × (b ≡ negsuc 0) = fault_means Int a b fault in beyond a b m.0 m.1,
-  λ outside. elim (either Int a b) [
-    | inl m ↦ ap (λ f. value_unless f (int_div a b)) (fault_comes Int a b m.0 m.1)
-    | inr other ↦ absurd (outside (quotient_fits (2 ^ 31 - 1) a b within.0 within.1 other))
+refuses_only_beyond_range kind a b in_a in_b nonzero = (
+  λ refused. refused_beyond (width_of kind) (is_signed kind) a b
+      (value_unless_err (division_fault_at (width_of kind) (is_signed kind) a b) (int_div a b) LeastByMinusOne refused),
+  λ outside. elim (either (width_of kind) (is_signed kind) a b nonzero) [
+    | inl fault ↦ ap (λ f. value_unless f (int_div a b)) fault
+    | inr none ↦ absurd (outside (quotient_in_range (width_of kind) (is_signed kind) a b in_a in_b none))
   ],
 )
-refuses_only_beyond_range kind a b ready within nonzero = cc

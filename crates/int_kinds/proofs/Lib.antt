@@ -1,3 +1,9 @@
+pub mod Digits
 pub mod Division
 pub mod DivisionLaws
 pub mod LiteralLaws
+pub mod Machine
+pub mod Ranges
+pub mod UnaryLaws
+pub mod WrapLaws
+pub mod Wrapping

@@ -3,7 +3,7 @@ use Rattle.std.specs.Prelude.{◌≡◌, ◌≢◌, ◌<◌, ◌↔◌, ℤ, pos
 use Rattle.cxx_base.specs.declared.operator.IntKind.{IntKind}
 use Rattle.cxx_base.specs.declared.operator.IntOp.TheVariants.{Div, Rem}
 use Rattle.int_kinds.specs.declared.fault.ArithFault.TheVariants.{LeastByMinusOne}
-use Rattle.int_kinds.specs.Kind.{IsInRange, IsReady}
+use Rattle.int_kinds.specs.Kind.{IsInRange}
 use Rattle.int_kinds.specs.Operate.{applied}
 
 -- a is b times the quotient, plus the remainder, which is smaller than b and has the sign of a
@@ -16,12 +16,12 @@ pub record FitTogether (a b quotient remainder : ℤ) : Type 0 where
 -- `/` and `%` fit together where both have a value
 abbrev pub DivisionIsWhole : Type 0
 DivisionIsWhole =
-    (kind : IntKind) (a b quotient remainder : ℤ) → IsReady kind
+    (kind : IntKind) (a b quotient remainder : ℤ)
     → applied Div kind a b ≡ Ok quotient → applied Rem kind a b ≡ Ok remainder
     → FitTogether a b quotient remainder
 
 -- besides a zero divisor, `/` is refused exactly where the quotient is no value of the kind
 abbrev pub RefusesOnlyBeyondRange : Type 0
 RefusesOnlyBeyondRange =
-    (kind : IntKind) (a b : ℤ) → IsReady kind → IsInRange kind a → b ≢ pos 0
+    (kind : IntKind) (a b : ℤ) → IsInRange kind a → IsInRange kind b → b ≢ pos 0
     → (applied Div kind a b ≡ Err LeastByMinusOne) ↔ (¬ IsInRange kind (int_div a b))

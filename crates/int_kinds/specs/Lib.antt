@@ -1,5 +1,8 @@
+pub mod Bits
+pub mod Convert
 pub mod Division
 pub mod Kind
 pub mod Literal
 pub mod Operate
-pub mod Unspecified
+pub mod Unary
+pub mod Wrap

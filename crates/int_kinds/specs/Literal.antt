@@ -1,24 +1,8 @@
 -- The kind of an integer literal ([lex.icon]).
-use Rattle.std.specs.Prelude.{◌≡◌, ◌≤◌, ◌^◌, ℕ, zero, suc, Bool as Test, true, false, not, ◌||◌, pos, int_le, List, [], ◌∷◌, filter, if◌then◌else◌, Option, Some, None}
+use Rattle.std.specs.Prelude.{◌≡◌, ◌≤◌, ◌^◌, ℕ, zero, suc, Bool as Test, not, ◌||◌, pos, int_le, List, [], ◌∷◌, filter, if◌then◌else◌, Option, Some, None}
 use Rattle.cxx_base.specs.declared.operator.IntKind.{IntKind}
-use Rattle.cxx_base.specs.declared.operator.IntKind.TheVariants.{Bool, Char, SChar, UChar, Short, UShort, Int, UInt, Long, ULong, LongLong, ULongLong}
-use Rattle.int_kinds.specs.Kind.{greatest_of}
-
--- the signed integer types and the unsigned ones ([basic.fundamental]); `char` is signed here, and `bool` holds no
--- negative number
-abbrev pub is_signed : IntKind → Test
-is_signed Bool = false
-is_signed Char = true
-is_signed SChar = true
-is_signed UChar = false
-is_signed Short = true
-is_signed UShort = false
-is_signed Int = true
-is_signed UInt = false
-is_signed Long = true
-is_signed ULong = false
-is_signed LongLong = true
-is_signed ULongLong = false
+use Rattle.cxx_base.specs.declared.operator.IntKind.TheVariants.{Int, UInt, Long, ULong, LongLong, ULongLong}
+use Rattle.int_kinds.specs.Kind.{is_signed, greatest_of}
 
 -- the kinds from `int` on where no `l` is written, from `long` on with `l`, and from `long long` on with `ll`
 abbrev pub kinds_from : ℕ → List IntKind

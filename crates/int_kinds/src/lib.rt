@@ -3,16 +3,25 @@
 #![tactic(auto)]
 
 mod fault;
+mod int;
 mod kind;
+#[cfg(test)]
+mod kind_tests;
 mod laws;
 mod literal;
 mod operate;
+mod promotion;
 #[cfg(test)]
 mod tests;
 
 pub use cxx_base::{CompareOp, IntKind, IntOp};
 pub use fault::ArithFault;
+pub use int::Int;
 pub use kind::{greatest, is_in_range, least};
-pub use laws::{division_is_whole, no_kind_beyond, refuses_only_beyond_range};
+pub use laws::{
+    complement_is_below, division_is_whole, negate_overflows_at_least, no_kind_beyond,
+    refuses_only_beyond_range, wrap_is_the_member,
+};
 pub use literal::literal_kind;
-pub use operate::apply;
+pub use operate::{apply, compare, complement, convert, negate};
+pub use promotion::{common, promote};

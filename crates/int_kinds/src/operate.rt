@@ -1,105 +1,143 @@
-//! The operators on whole numbers.
-ghost use Rattle.std.specs.Prelude.{◌≡◌, IfOk, ◌+ℤ◌, ◌-ℤ◌, ◌*ℤ◌, int_div, int_rem};
-ghost use Rattle.int_kinds.specs.Kind.{IsInRange, IsReady};
-ghost use Rattle.int_kinds.specs.Operate.{applied, division_fault, exact_or_overflow, value_unless, IsArithmetic};
+//! The operators on whole numbers, kind by kind.
+ghost use Rattle.std.specs.Prelude.{◌≡◌, IfOk};
+ghost use Rattle.int_kinds.specs.Convert.{converted, IsPromoted};
+ghost use Rattle.int_kinds.specs.Kind.{IsInRange};
+ghost use Rattle.int_kinds.specs.Operate.{applied, compared, complemented, negated, IsShift};
 
 use crate::fault::ArithFault;
-use crate::kind::{is_in_range, least};
-use cxx_base::{IntKind, IntOp};
+use crate::int::Int;
+use cxx_base::{CompareOp, IntKind, IntOp};
+
+// The call at the width and the sign of the kind.
+macro_rules! at_kind {
+    // Of a kind that promotion gives: no other comes.
+    ($kind:expr, promoted $call:ident($($argument:expr),*)) => {
+        match $kind {
+            IntKind::Int => Int::<32, 1>::$call($($argument),*),
+            IntKind::UInt => Int::<32, 0>::$call($($argument),*),
+            IntKind::Long | IntKind::LongLong => Int::<64, 1>::$call($($argument),*),
+            IntKind::ULong | IntKind::ULongLong => Int::<64, 0>::$call($($argument),*),
+            IntKind::Bool
+            | IntKind::Char
+            | IntKind::SChar
+            | IntKind::UChar
+            | IntKind::Short
+            | IntKind::UShort => unreachable!(),
+        }
+    };
+    // Of each kind; `bool` has a rule of its own.
+    ($kind:expr, bool $bool:expr, $call:ident($($argument:expr),*)) => {
+        match $kind {
+            IntKind::Bool => $bool,
+            IntKind::Char | IntKind::SChar => Int::<8, 1>::$call($($argument),*),
+            IntKind::UChar => Int::<8, 0>::$call($($argument),*),
+            IntKind::Short => Int::<16, 1>::$call($($argument),*),
+            IntKind::UShort => Int::<16, 0>::$call($($argument),*),
+            IntKind::Int => Int::<32, 1>::$call($($argument),*),
+            IntKind::UInt => Int::<32, 0>::$call($($argument),*),
+            IntKind::Long | IntKind::LongLong => Int::<64, 1>::$call($($argument),*),
+            IntKind::ULong | IntKind::ULongLong => Int::<64, 0>::$call($($argument),*),
+        }
+    };
+}
 
 /// The operator at the kind: arithmetic of whole numbers without bounds, or why it gives no value.
 ///
-/// `+`, `-` and `*` give the exact result where the kind has it ([expr.add], [expr.mul]), and `Overflow`
-/// elsewhere. `/` gives the quotient cut toward 0, and `%` the remainder, with the sign of the left side
-/// ([expr.mul]); both give `ZeroDivisor` where the right side is 0, and `LeastByMinusOne` for the least value
-/// of the kind by -1. Both sides are values of the kind, which is `int` so far, and the operator is one of
-/// these five.
+/// With a sign, `+`, `-` and `*` give the exact result where the kind has it, and `Overflow` elsewhere ([expr.add],
+/// [expr.mul], [expr.pre]); without, the result modulo 2 to the power of the width ([basic.fundamental]). `/` gives the
+/// quotient cut toward 0, and `%` the remainder, with the sign of the left side ([expr.mul]); both give `ZeroDivisor` where
+/// the right side is 0, and `LeastByMinusOne` for the least value of a kind with a sign by -1. `<<` gives the value of the
+/// kind that is congruent to the left side times a power of 2, and `>>` rounds the quotient by that power down
+/// ([expr.shift]); both give `ShiftCount` where the right side is negative or not below the width. `&`, `|` and `^` go
+/// bit by bit in two's complement ([expr.bit.and], [expr.or], [expr.xor]).
+///
+/// The kind is one that promotion gives, both sides are values of it, and the right side of a shift is any number.
 pub fn apply(op: IntOp, kind: IntKind, a: i128, b: i128) -> Result<i128, ArithFault>
-    requires ready { IsReady kind }
-    requires arithmetic { IsArithmetic op }
+    requires promoted { IsPromoted kind }
     requires left { IsInRange kind a }
-    requires right { IsInRange kind b }
+    requires right { (¬ IsShift op) → IsInRange kind b }
     ensures exact { result ≡ applied op kind a b }
     ensures in_range { IfOk result (λ n. IsInRange kind n) }
 {
+    applied_exactly(op, kind, a, b)
+}
+
+fn applied_exactly(op: IntOp, kind: IntKind, a: i128, b: i128) -> Result<i128, ArithFault>
+    requires promoted { IsPromoted kind }
+    requires left { IsInRange kind a }
+    requires right { (¬ IsShift op) → IsInRange kind b }
+    ensures { result ≡ applied op kind a b }
+{
+    at_kind!(kind, promoted apply(op, a, b))
+}
+
+/// The operator `-` with one operand ([expr.unary.op]): `Overflow` exactly at the least value of a kind with a sign, where
+/// the negative is no value of the kind; without a sign, the negative modulo 2 to the power of the width.
+///
+/// The kind is one that promotion gives, and `a` is a value of it.
+pub fn negate(kind: IntKind, a: i128) -> Result<i128, ArithFault>
+    requires promoted { IsPromoted kind }
+    requires operand { IsInRange kind a }
+    ensures exact { result ≡ negated kind a }
+    ensures in_range { IfOk result (λ n. IsInRange kind n) }
+{
+    negated_exactly(kind, a)
+}
+
+fn negated_exactly(kind: IntKind, a: i128) -> Result<i128, ArithFault>
+    requires promoted { IsPromoted kind }
+    requires operand { IsInRange kind a }
+    ensures { result ≡ negated kind a }
+{
+    at_kind!(kind, promoted negative(a))
+}
+
+/// The operator `~` ([expr.unary.op]): the value with each bit turned.
+///
+/// The kind is one that promotion gives, and `a` is a value of it.
+pub fn complement(kind: IntKind, a: i128) -> i128
+    requires promoted { IsPromoted kind }
+    requires operand { IsInRange kind a }
+    ensures exact { result ≡ complemented kind a }
+    ensures in_range { IsInRange kind result }
+{
+    complemented_exactly(kind, a)
+}
+
+fn complemented_exactly(kind: IntKind, a: i128) -> i128
+    requires promoted { IsPromoted kind }
+    requires operand { IsInRange kind a }
+    ensures { result ≡ complemented kind a }
+{
+    at_kind!(kind, promoted turned(a))
+}
+
+/// The number as a value of the kind: as `bool`, 0 for 0 and 1 for each other number ([conv.bool]); else the value of the
+/// kind that is congruent to it modulo 2 to the power of the width ([conv.integral]). A value of the kind stays.
+pub fn convert(kind: IntKind, n: i128) -> i128
+    ensures value { result ≡ converted kind n }
+    ensures in_range { IsInRange kind result }
+    ensures same { IsInRange kind n → result ≡ n }
+{
+    converted_exactly(kind, n)
+}
+
+fn converted_exactly(kind: IntKind, n: i128) -> i128
+    ensures { result ≡ converted kind n }
+{
+    at_kind!(kind, bool if n == 0 { 0 } else { 1 }, wrapped(n))
+}
+
+/// The comparison of two numbers ([expr.rel], [expr.eq]).
+pub fn compare(op: CompareOp, a: i128, b: i128) -> bool
+    ensures { result ≡ compared op a b }
+{
     match op {
-        IntOp::Add => add(kind, a, b),
-        IntOp::Sub => subtract(kind, a, b),
-        IntOp::Mul => multiply(kind, a, b),
-        IntOp::Div => divide(kind, a, b),
-        IntOp::Rem => remainder(kind, a, b),
-        IntOp::Shl | IntOp::Shr | IntOp::And | IntOp::Or | IntOp::Xor => unreachable!(),
-    }
-}
-
-// A sum beyond the machine's width is beyond each kind's range too; so it is below, with differences and products.
-fn add(kind: IntKind, a: i128, b: i128) -> Result<i128, ArithFault>
-    ensures { result ≡ exact_or_overflow kind (a +ℤ b) }
-{
-    match a.checked_add(b) {
-        Some(sum) => keep(kind, sum),
-        None => Err(ArithFault::Overflow),
-    }
-}
-
-fn subtract(kind: IntKind, a: i128, b: i128) -> Result<i128, ArithFault>
-    ensures { result ≡ exact_or_overflow kind (a -ℤ b) }
-{
-    match a.checked_sub(b) {
-        Some(difference) => keep(kind, difference),
-        None => Err(ArithFault::Overflow),
-    }
-}
-
-fn multiply(kind: IntKind, a: i128, b: i128) -> Result<i128, ArithFault>
-    ensures { result ≡ exact_or_overflow kind (a *ℤ b) }
-{
-    match a.checked_mul(b) {
-        Some(product) => keep(kind, product),
-        None => Err(ArithFault::Overflow),
-    }
-}
-
-// The number, where the kind has it.
-fn keep(kind: IntKind, exact: i128) -> Result<i128, ArithFault>
-    ensures { result ≡ exact_or_overflow kind exact }
-{
-    if is_in_range(kind, exact) {
-        Ok(exact)
-    } else {
-        Err(ArithFault::Overflow)
-    }
-}
-
-fn divide(kind: IntKind, a: i128, b: i128) -> Result<i128, ArithFault>
-    requires { IsInRange kind a }
-    ensures { result ≡ value_unless (division_fault kind a b) (int_div a b) }
-{
-    match fault_of_division(kind, a, b) {
-        Some(fault) => Err(fault),
-        None => Ok(a / b),
-    }
-}
-
-fn remainder(kind: IntKind, a: i128, b: i128) -> Result<i128, ArithFault>
-    requires { IsInRange kind a }
-    ensures { result ≡ value_unless (division_fault kind a b) (int_rem a b) }
-{
-    match fault_of_division(kind, a, b) {
-        Some(fault) => Err(fault),
-        None => Ok(a % b),
-    }
-}
-
-// Why the kind has no quotient and no remainder, if so.
-fn fault_of_division(kind: IntKind, a: i128, b: i128) -> Option<ArithFault>
-    ensures { result ≡ division_fault kind a b }
-{
-    if b == 0 {
-        Some(ArithFault::ZeroDivisor)
-    } else if a == least(kind) && b == -1 {
-        Some(ArithFault::LeastByMinusOne)
-    } else {
-        None
+        CompareOp::Lt => a < b,
+        CompareOp::Le => a <= b,
+        CompareOp::Gt => a > b,
+        CompareOp::Ge => a >= b,
+        CompareOp::Eq => a == b,
+        CompareOp::Ne => a != b,
     }
 }

@@ -1,4 +1,4 @@
--- The law, as it is proved over the lists of kinds.
+-- The law, as it is proved with the lists of kinds.
 use Rattle.int_kinds.proofs.LiteralLaws as laws
 use Rattle.int_kinds.proofs.laws.no_kind_beyond.Goals as goal
 

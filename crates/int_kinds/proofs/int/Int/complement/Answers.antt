@@ -1,0 +1,16 @@
+-- The machine's operator, read at the width.
+use Rattle.std.proofs.Common.{FitsSigned, arith, ◌∙◌}
+use Rattle.std.specs.Prelude.{◌==◌}
+use Rattle.std.specs.Int.{w128}
+use Rattle.std.proofs.lemmas.Int.{to_z-of_z}
+use Rattle.int_kinds.proofs.Digits.{turned_is}
+use Rattle.int_kinds.proofs.Machine.{bounds}
+use Rattle.int_kinds.proofs.int.Int.complement.Goals as goal
+
+pub returns : goal.returns
+returns g c =
+    let a = c.args.self in
+    let fits : FitsSigned w128 c.wrapped.result = record { sfits = c.wrapped.type_inv } in
+    let fits_a : FitsSigned w128 a.value = bounds g.row.BITS (g.row.SIGNED == 1) a.value a.few_bits a.in_range in
+    to_z-of_z w128 c.wrapped.result fits ∙ c.wrapped.ensures
+    ∙ turned_is g.row.BITS (g.row.SIGNED == 1) a.value a.some_bits (omega arith) fits_a
