@@ -1,0 +1,4 @@
+pub mod LayoutLaws
+pub mod Multiples
+pub mod Sizes
+pub mod Steps

@@ -1,0 +1,6 @@
+-- The law, as it is proved along the list of parts.
+use Rattle.class_layout.proofs.LayoutLaws as laws
+use Rattle.class_layout.proofs.laws.no_two_overlap.Goals as goal
+
+pub returns : goal.returns
+returns c = laws.no_two_overlap
