@@ -1,0 +1,9 @@
+pub mod Lists
+pub mod Left
+pub mod Options
+pub mod Tasks
+pub mod Moves
+pub mod Keeping
+pub mod Sums
+pub mod Counting
+pub mod Replays

@@ -1,0 +1,20 @@
+-- What a value that came out of an optional one says of it.
+use Rattle.std.proofs.Common.{◌≡◌, Option, Some, None, refl}
+use Rattle.std.specs.Option.{option_map}
+use Rattle.settle_core.specs.Steps.{option_bind}
+
+module _ {A : Type 0} where
+  pub some_injective : (x y : A) → ◌≡◌ {A = Option A} (Some x) (Some y) → x ≡ y
+  some_injective x y e = cc
+
+  pub none_is_no_some : (x : A) → ◌≡◌ {A = Option A} None (Some x) → ⊥
+  none_is_no_some x e = cc
+
+module _ {A B : Type 0} where
+  pub from_map : (f : A → B) (o : Option A) (y : B) → option_map f o ≡ Some y → (x : A) × (o ≡ Some x) × (f x ≡ y)
+  from_map f None y e = absurd (none_is_no_some y e)
+  from_map f (Some x) y e = (x, refl, some_injective (f x) y e)
+
+  pub from_bind : (f : A → Option B) (o : Option A) (y : B) → option_bind o f ≡ Some y → (x : A) × (o ≡ Some x) × (f x ≡ Some y)
+  from_bind f None y e = absurd (none_is_no_some y e)
+  from_bind f (Some x) y e = (x, refl, e)

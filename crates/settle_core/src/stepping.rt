@@ -1,0 +1,173 @@
+//! One step, and a list of steps.
+
+ghost use Rattle.std.specs.Prelude.{◌≡◌, ◌<◌, length, IfOk, IfSome, OnSome};
+ghost use Rattle.settle_core.specs.Steps.{named, after_advance, made, stepped, replayed};
+ghost use Rattle.settle_core.specs.State.{all_fresh};
+ghost use Rattle.settle_core.specs.Sound.{Sound, EarliestGoesOn};
+ghost use Rattle.settle_core.specs.Bound.{IsWithinBound};
+
+use crate::core_state::CoreState;
+use crate::core_step::CoreStep;
+use crate::next_of::NextOf;
+use crate::piece_state::PieceState;
+use crate::played::Played;
+use crate::taken_list::TakenList;
+use cxx_base::{Memory, PieceNo};
+use std::alloc::Global;
+
+/// The state that a step makes of the one handed in, or None exactly where the step's condition fails. At None and without
+/// memory the state is gone.
+pub fn step<M: Played>(
+    alloc: Global,
+    meaning: &M,
+    mut state: CoreState<M>,
+    next: CoreStep,
+) -> Result<Option<CoreState<M>>, Memory>
+    requires { length state ≡ (M.meant meaning.now).pieces }
+    ensures exact { IfOk result (λ after. after ≡ stepped (M.next_of meaning.now) state next) }
+    ensures whole { IfOk result (λ after. IfSome after (λ s. length s ≡ (M.meant meaning.now).pieces)) }
+    ensures sound { IfOk result (λ after. IfSome after (λ s. Sound (M.meant meaning.now) state → Sound (M.meant meaning.now) s)) }
+{
+    let Some(piece) = state.take(next.piece()) else {
+        return Ok(None);
+    };
+    match moved(alloc, meaning, &state, next, piece)? {
+        Some(piece) => {
+            state.put(next.piece(), piece);
+            Ok(Some(state))
+        }
+        None => Ok(None),
+    }
+}
+
+/// The state after a list of steps, from the one in which every piece is fresh. None exactly where the condition of one of
+/// them fails.
+pub fn replay<M: Played>(
+    alloc: Global,
+    meaning: &M,
+    steps: &[CoreStep],
+) -> Result<Option<CoreState<M>>, Memory>
+    ensures exact { IfOk result (λ after. after ≡ replayed (M.next_of meaning.now) (all_fresh (M.meant meaning.now).pieces) steps.now) }
+    ensures sound { IfOk result (λ after. IfSome after (Sound (M.meant meaning.now))) }
+    ensures earliest { IfOk result (λ after. IfSome after EarliestGoesOn) }
+    ensures bound { IfOk result (λ after. OnSome after (IsWithinBound (M.meant meaning.now) (M.next_of meaning.now) steps.now)) }
+{
+    let mut state = CoreState::fresh(alloc, meaning)?;
+    for next in steps {
+        let Some(after) = step(alloc, meaning, state, *next)? else {
+            return Ok(None);
+        };
+        state = after;
+    }
+    Ok(Some(state))
+}
+
+// What a step makes of the piece that it names, which was taken out of the state.
+fn moved<M: Played>(
+    alloc: Global,
+    meaning: &M,
+    state: &CoreState<M>,
+    next: CoreStep,
+    piece: PieceState<M::Outcome>,
+) -> Result<Option<PieceState<M::Outcome>>, Memory>
+    requires { named next < (M.meant meaning.now).pieces }
+    ensures { IfOk result (λ after. after ≡ made (M.next_of meaning.now) state.now next piece) }
+{
+    match (next, piece) {
+        (CoreStep::Claim(_, worker), PieceState::Fresh) => Ok(Some(PieceState::Held {
+            worker,
+            taken: TakenList::new(alloc),
+            advanced: false,
+        })),
+        (
+            CoreStep::Advance(k),
+            PieceState::Held {
+                worker,
+                taken,
+                advanced,
+            },
+        ) => advance(alloc, meaning, state, k, worker, taken, advanced),
+        (
+            CoreStep::Park(k, on),
+            PieceState::Held {
+                taken,
+                advanced,
+                ..
+            },
+        ) => {
+            let next = meaning.next(alloc, k, &taken)?;
+            Ok(match next {
+                NextOf::Read(j) if j == on => Some(PieceState::Parked {
+                    taken,
+                    advanced,
+                    on,
+                }),
+                _ => None,
+            })
+        }
+        (
+            CoreStep::Resume(_, worker),
+            PieceState::Parked {
+                taken,
+                advanced,
+                on,
+            },
+        ) => {
+            Ok(match state.outcome(on) {
+                Some(_) => Some(PieceState::Held {
+                    worker,
+                    taken,
+                    advanced,
+                }),
+                None => None,
+            })
+        }
+        (
+            CoreStep::Settle(k),
+            PieceState::Held {
+                taken,
+                advanced,
+                ..
+            },
+        ) => {
+            let next = meaning.next(alloc, k, &taken)?;
+            Ok(match next {
+                NextOf::Ends(outcome) if advanced => Some(PieceState::Settled(outcome)),
+                _ => None,
+            })
+        }
+        _ => Ok(None),
+    }
+}
+
+fn advance<M: Played>(
+    alloc: Global,
+    meaning: &M,
+    state: &CoreState<M>,
+    k: PieceNo,
+    worker: u32,
+    mut taken: TakenList<M::Outcome>,
+    advanced: bool,
+) -> Result<Option<PieceState<M::Outcome>>, Memory>
+    requires { k.0 < (M.meant meaning.now).pieces }
+    ensures { IfOk result (λ after. after ≡ after_advance state.now worker taken advanced (M.next_of meaning.now k.0 taken)) }
+{
+    match meaning.next(alloc, k, &taken)? {
+        NextOf::Read(j) => {
+            let Some(outcome) = state.outcome(j) else {
+                return Ok(None);
+            };
+            taken.push(j, meaning.copy(alloc, outcome)?)?;
+        }
+        NextOf::Ends(_) => {
+            if advanced {
+                return Ok(None);
+            }
+        }
+    }
+    Ok(Some(PieceState::Held {
+        worker,
+        taken,
+        advanced: true,
+    }))
+}
