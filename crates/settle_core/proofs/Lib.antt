@@ -7,3 +7,5 @@ pub mod Keeping
 pub mod Sums
 pub mod Counting
 pub mod Replays
+pub mod NextByReads
+pub mod Folds

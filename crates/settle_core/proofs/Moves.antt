@@ -9,7 +9,7 @@ use Rattle.settle_core.specs.Steps.{named, after_advance, after_park, after_resu
 use Rattle.settle_core.specs.Sound.{IsTask, IsParkedTask, IsSound, Sound}
 use Rattle.settle_core.specs.Bound.{idle}
 use Rattle.settle_core.proofs.Options.{some_injective, none_is_no_some, from_map}
-use Rattle.settle_core.proofs.Tasks.{task_length, takes_more, is_advanced, next_cases}
+use Rattle.settle_core.proofs.Tasks.{front_length, takes_more, is_advanced, next_cases}
 
 module _ {T O : Type 0} (m : Meant T O) (s : List (PieceState O)) where
   -- 2 for a task that has taken n reads and whose next read is settled
@@ -23,6 +23,18 @@ module _ {T O : Type 0} (m : Meant T O) (s : List (PieceState O)) where
   spent k (Held worker taken mark) = 1 + 3 * length taken + cond mark 1 0 + bonus k (length taken)
   spent k (Parked taken mark on) = 2 + 3 * length taken + cond mark 1 0
   spent k (Settled o) = 3 + 3 * length (reads m k)
+
+module _ {T O : Type 0} (m : Meant T O) (s : List (PieceState O)) (sound : Sound m s) where
+  -- what a settled piece has is its outcome in the fold
+  pub settled_outcome : (j : ℕ) (o : O) → settled_at s j ≡ Some o → o ≡ outcome m j
+  settled_outcome j o e = in_place (slice_get s j) refl e
+    where
+      in_place : (p : Option (PieceState O)) → slice_get s j ≡ p → outcome_in p ≡ Some o → o ≡ outcome m j
+      in_place None h e = absurd (none_is_no_some o e)
+      in_place (Some Fresh) h e = absurd (none_is_no_some o e)
+      in_place (Some (Held w taken mark)) h e = absurd (none_is_no_some o e)
+      in_place (Some (Parked taken mark on)) h e = absurd (none_is_no_some o e)
+      in_place (Some (Settled u)) h e = sym (some_injective u o e) ∙ sound.each j (Settled u) h
 
 module _ {T O : Type 0} (m : Meant T O) (lawful : Lawful m) (next : ℕ → List (ℕ × O) → NextOf O) (law : IsNext m next) (s : List (PieceState O)) (sound : Sound m s) (k : ℕ) (inside : k < m.pieces) where
   -- q is what a step with i idle Parks makes of p
@@ -56,25 +68,14 @@ module _ {T O : Type 0} (m : Meant T O) (lawful : Lawful m) (next : ℕ → List
     more = omega arith;
   }
 
-  -- what a settled piece has is its outcome in the fold
-  settled_outcome : (j : ℕ) (o : O) → settled_at s j ≡ Some o → o ≡ outcome m j
-  settled_outcome j o e = in_place (slice_get s j) refl e
-    where
-      in_place : (p : Option (PieceState O)) → slice_get s j ≡ p → outcome_in p ≡ Some o → o ≡ outcome m j
-      in_place None h e = absurd (none_is_no_some o e)
-      in_place (Some Fresh) h e = absurd (none_is_no_some o e)
-      in_place (Some (Held w taken mark)) h e = absurd (none_is_no_some o e)
-      in_place (Some (Parked taken mark on)) h e = absurd (none_is_no_some o e)
-      in_place (Some (Settled u)) h e = sym (some_injective u o e) ∙ sound.each j (Settled u) h
-
   module _ (worker : ℕ) (taken : List (ℕ × O)) (mark : Bool) (t : IsTask m s k taken mark) where
     abbrev j : ℕ
     j = get_or (reads m k) t.count 0
 
     takes : (o : O) → settled_at s j ≡ Some o → t.count < length (reads m k) → Moved 0 (Held worker taken mark) (Held worker (taken ++ (j, o) ∷ []) true)
     takes o e l = let here : IsSettledAt s j = ap is_some e in record {
-      is_sound = subst (λ (x : O). IsTask m s k (taken ++ (j, x) ∷ []) true) (sym (settled_outcome j o e)) (takes_more m s k taken mark t l here);
-      more = let n = task_length m s k taken mark t in
+      is_sound = subst (λ (x : O). IsTask m s k (taken ++ (j, x) ∷ []) true) (sym (settled_outcome m s sound j o e)) (takes_more m s k taken mark t l here);
+      more = let n = front_length m k taken t.count t.within t.prefix in
           let b : bonus m s k (length taken) ≡ 2 = ap (bonus m s k) n ∙ bonus_settled t.count l here in
           let f = one_at_most mark in
           let a : length (taken ++ (j, o) ∷ []) ≡ length taken + 1 = length-append taken ((j, o) ∷ []) in
@@ -93,12 +94,12 @@ module _ {T O : Type 0} (m : Meant T O) (lawful : Lawful m) (next : ℕ → List
         (λ r. let f = from_map (λ o. Held worker (taken ++ (j, o) ∷ []) true) (settled_at s j) q (sym (ap (after_advance s worker taken mark) r.0) ∙ e) in
         subst (Moved 0 (Held worker taken mark)) f.2 (takes f.0 f.1 r.1))
         (λ r. ends_by mark refl r.1 q (sym (ap (after_advance s worker taken mark) r.0) ∙ e))
-        (next_cases m s k taken mark t next law inside)
+        (next_cases m k taken t.count t.within t.prefix next law inside)
 
     parks_on : (on : PieceNo) → on.0 ≡ j → t.count < length (reads m k) → Moved (cond (is_some (settled_at s on.0)) 1 0) (Held worker taken mark) (Parked taken mark on)
     parks_on on e l = record {
       is_sound = record { task = t; has_next = l; is_next = e; below = subst (λ (i : ℕ). i < k) (sym e) (lawful.below k t.count inside l) };
-      more = let n = task_length m s k taken mark t in
+      more = let n = front_length m k taken t.count t.within t.prefix in
           let b : bonus m s k (length taken) ≤ 2 * cond (is_some (settled_at s on.0)) 1 0 = subst (λ (i : ℕ). bonus m s k i ≤ 2 * cond (is_some (settled_at s on.0)) 1 0) (sym n) (bonus_idle t.count on.0 e) in
           omega arith;
     }
@@ -108,7 +109,7 @@ module _ {T O : Type 0} (m : Meant T O) (lawful : Lawful m) (next : ℕ → List
         (λ r. let f : after_park on taken mark (Read (record { 0 = j })) ≡ Some q = sym (ap (after_park on taken mark) r.0) ∙ e in
         chosen (j == on.0) refl f r.1)
         (λ r. absurd (none_is_no_some q (sym (ap (after_park on taken mark) r.0) ∙ e)))
-        (next_cases m s k taken mark t next law inside)
+        (next_cases m k taken t.count t.within t.prefix next law inside)
       where
         chosen : (b : Bool) → (j == on.0) ≡ b → (if b then Some (Parked taken mark on) else None) ≡ Some q → t.count < length (reads m k) → Moved (cond (is_some (settled_at s on.0)) 1 0) (Held worker taken mark) q
         chosen true h f l = subst (Moved (cond (is_some (settled_at s on.0)) 1 0) (Held worker taken mark)) (some_injective (Parked taken mark on) q f) (parks_on on (sym (eqb-true j on.0 h)) l)
@@ -117,7 +118,7 @@ module _ {T O : Type 0} (m : Meant T O) (lawful : Lawful m) (next : ℕ → List
     settles_by : (b : Bool) → mark ≡ b → t.count ≡ length (reads m k) → (q : PieceState O) → after_settle b (Ends (outcome m k)) ≡ Some q → Moved 0 (Held worker taken mark) q
     settles_by true h l q e = subst (Moved 0 (Held worker taken mark)) (some_injective (Settled (outcome m k)) q e) record {
       is_sound = refl;
-      more = let n = task_length m s k taken mark t in
+      more = let n = front_length m k taken t.count t.within t.prefix in
           let b : bonus m s k (length taken) ≡ 0 = bonus_ends (length taken) (n ∙ l) in
           let f : cond {A = ℕ} mark 1 0 ≡ 1 = ap (λ b. cond {A = ℕ} b 1 0) h in omega arith;
     }
@@ -127,12 +128,12 @@ module _ {T O : Type 0} (m : Meant T O) (lawful : Lawful m) (next : ℕ → List
     settles q e = ⊎_elim
         (λ r. absurd (none_is_no_some q (sym (ap (after_settle mark) r.0) ∙ e)))
         (λ r. settles_by mark refl r.1 q (sym (ap (after_settle mark) r.0) ∙ e))
-        (next_cases m s k taken mark t next law inside)
+        (next_cases m k taken t.count t.within t.prefix next law inside)
 
   resumes : (worker : ℕ) (taken : List (ℕ × O)) (mark : Bool) (on : PieceNo) → IsParkedTask m s k taken mark on → (q : PieceState O) → after_resume s worker taken mark on ≡ Some q → Moved 0 (Parked taken mark on) q
   resumes worker taken mark on t q e = let f = from_map (λ o. Held worker taken mark) (settled_at s on.0) q e in subst (Moved 0 (Parked taken mark on)) f.2 record {
     is_sound = t.task;
-    more = let n = task_length m s k taken mark t.task in
+    more = let n = front_length m k taken t.task.count t.task.within t.task.prefix in
         let h : IsSettledAt s (get_or (reads m k) t.task.count 0) = subst (λ (i : ℕ). IsSettledAt s i) t.is_next (ap is_some f.1) in
         let b : bonus m s k (length taken) ≡ 2 = ap (bonus m s k) n ∙ bonus_settled t.task.count t.has_next h in
         omega arith;

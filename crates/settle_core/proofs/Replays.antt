@@ -6,9 +6,10 @@ use Rattle.settle_core.specs.Meant.{Meant, Lawful}
 use Rattle.settle_core.specs.Next.{NextOf, IsNext}
 use Rattle.settle_core.specs.State.{PieceState, Fresh, Parked, CoreStep, all_fresh}
 use Rattle.settle_core.specs.Steps.{option_bind, stepped, replayed}
-use Rattle.settle_core.specs.Sound.{IsSound, Sound, EarliestGoesOn}
+use Rattle.settle_core.specs.Sound.{IsSound, Sound, SettlesFold, EarliestGoesOn}
 use Rattle.settle_core.specs.Bound.{idle, idle_parks, IsWithinBound}
 use Rattle.settle_core.proofs.Options.{some_injective, none_is_no_some, from_bind}
+use Rattle.settle_core.proofs.Moves.{settled_outcome}
 use Rattle.settle_core.proofs.Keeping.{parts, same_length, keeps}
 use Rattle.settle_core.proofs.Counting.{spent_by_all, within, spends}
 
@@ -21,7 +22,7 @@ module _ {T O : Type 0} (m : Meant T O) where
   fresh_each (suc n) zero p e = some_injective Fresh p e
   fresh_each (suc n) (suc k) p e = fresh_each n k p e
 
-  length_fresh : (n : ℕ) → length (all_fresh {O = O} n) ≡ n
+  pub length_fresh : (n : ℕ) → length (all_fresh {O = O} n) ≡ n
   length_fresh zero = refl
   length_fresh (suc n) = ap suc (length_fresh n)
 
@@ -53,6 +54,10 @@ module _ {T O : Type 0} (m : Meant T O) (lawful : Lawful m) (next : ℕ → List
   pub replay_sound : (steps : List CoreStep) (o : Option (List (PieceState O))) → o ≡ replayed next (all_fresh m.pieces) steps → IfSome o (Sound m)
   replay_sound steps None e = tt
   replay_sound steps (Some t) e = all_sound steps (all_fresh m.pieces) t (fresh_sound m) (sym e)
+
+  pub replay_fold : (steps : List CoreStep) (o : Option (List (PieceState O))) → o ≡ replayed next (all_fresh m.pieces) steps → IfSome o (SettlesFold m)
+  replay_fold steps None e = tt
+  replay_fold steps (Some t) e = settled_outcome m t (replay_sound steps (Some t) e)
 
   pub replay_goes_on : (steps : List CoreStep) (o : Option (List (PieceState O))) → o ≡ replayed next (all_fresh m.pieces) steps → IfSome o EarliestGoesOn
   replay_goes_on steps None e = tt

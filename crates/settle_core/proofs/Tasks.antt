@@ -1,7 +1,8 @@
 -- Tasks: the first reads of a piece, and what comes next.
-use Rattle.std.proofs.Common.{◌≡◌, ◌⊎◌, ℕ, zero, suc, ◌<◌, ◌≤◌, List, [], ◌∷◌, ◌++◌, map, take, length, get_or, Bool, true, lt-ltb, refl, sym, ap, ◌∙◌, subst, arith, inl, inr}
+use Rattle.std.proofs.Common.{◌≡◌, ◌⊎◌, ℕ, zero, suc, ◌<◌, ◌≤◌, List, [], ◌∷◌, ◌++◌, map, take, length, get_or, Bool, true, lt-ltb, refl, sym, ap, ◌∙◌, subst, arith, inl, inr, ⊎_elim}
 use mathlib.Core.Logic.{dite}
 use native.Mathlib.Decide.{dec_lt, ℕ_discrete}
+use Rattle.cxx_base.specs.declared.number.PieceNo.{PieceNo}
 use Rattle.settle_core.specs.Meant.{Meant, outcome, reads}
 use Rattle.settle_core.specs.Next.{NextOf, Read, Ends, firsts, IsNext}
 use Rattle.settle_core.specs.State.{PieceState, IsSettledAt}
@@ -18,17 +19,43 @@ module _ {O : Type 0} (out : ℕ → O) where
   length_firsts [] (suc n) l = absurd (omega arith)
   length_firsts (x ∷ xs) (suc n) l = ap suc (length_firsts xs n (omega arith))
 
-module _ {T O : Type 0} (m : Meant T O) (s : List (PieceState O)) (k : ℕ) (taken : List (ℕ × O)) (mark : Bool) (t : IsTask m s k taken mark) where
-  pub task_length : length taken ≡ t.count
-  task_length = ap length t.prefix ∙ length_firsts (outcome m) (reads m k) t.count t.within
+-- the first n reads of the piece k were taken
+module _ {T O : Type 0} (m : Meant T O) (k : ℕ) (taken : List (ℕ × O)) (n : ℕ) (within : n ≤ length (reads m k)) (prefix : taken ≡ firsts m k n) where
+  pub front_length : length taken ≡ n
+  front_length = ap length prefix ∙ length_firsts (outcome m) (reads m k) n within
 
+  pub front_more : n < length (reads m k) → taken ++ (get_or (reads m k) n 0, outcome m (get_or (reads m k) n 0)) ∷ [] ≡ firsts m k (suc n)
+  front_more l = ap (λ ts. ts ++ (get_or (reads m k) n 0, outcome m (get_or (reads m k) n 0)) ∷ []) prefix ∙ sym (one_more (outcome m) (reads m k) n l)
+
+  module _ (next : ℕ → List (ℕ × O) → NextOf O) (law : IsNext m next) (inside : k < m.pieces) where
+    pub next_cases : ((next k taken ≡ Read (record { 0 = get_or (reads m k) n 0 })) × (n < length (reads m k))) ⊎ ((next k taken ≡ Ends (outcome m k)) × (n ≡ length (reads m k)))
+    next_cases = dite (dec_lt n (length (reads m k)))
+        (λ (l : n < length (reads m k)). inl (ap (next k) prefix ∙ law.reads_next k n inside l, l))
+        (λ (l : n < length (reads m k) → ⊥). let e : n ≡ length (reads m k) = omega arith in inr (ap (next k) prefix ∙ ap (λ i. next k (firsts m k i)) e ∙ law.ends_with k inside, e))
+
+    read_is : (p q : PieceNo) → ◌≡◌ {A = NextOf O} (Read p) (Read q) → p.0 ≡ q.0
+    read_is p q e = cc
+
+    read_is_no_end : (p : PieceNo) (o : O) → ◌≡◌ {A = NextOf O} (Read p) (Ends o) → ⊥
+    read_is_no_end p o e = cc
+
+    end_is : (o u : O) → ◌≡◌ {A = NextOf O} (Ends o) (Ends u) → o ≡ u
+    end_is o u e = cc
+
+    pub reads_if : (j : PieceNo) → next k taken ≡ Read j → (j.0 ≡ get_or (reads m k) n 0) × (n < length (reads m k))
+    reads_if j e = ⊎_elim (λ r. (read_is j (record { 0 = get_or (reads m k) n 0 }) (sym e ∙ r.0), r.1)) (λ r. absurd (read_is_no_end j (outcome m k) (sym e ∙ r.0))) next_cases
+
+    pub ends_if : (o : O) → next k taken ≡ Ends o → o ≡ outcome m k
+    ends_if o e = ⊎_elim (λ r. absurd (read_is_no_end (record { 0 = get_or (reads m k) n 0 }) o (sym r.0 ∙ e))) (λ r. end_is o (outcome m k) (sym e ∙ r.0)) next_cases
+
+module _ {T O : Type 0} (m : Meant T O) (s : List (PieceState O)) (k : ℕ) (taken : List (ℕ × O)) (mark : Bool) (t : IsTask m s k taken mark) where
   -- it takes one read more
   pub takes_more : t.count < length (reads m k) → IsSettledAt s (get_or (reads m k) t.count 0)
       → IsTask m s k (taken ++ (get_or (reads m k) t.count 0, outcome m (get_or (reads m k) t.count 0)) ∷ []) true
   takes_more l e = record {
     count = suc t.count;
     within = omega arith;
-    prefix = ap (λ ts. ts ++ (get_or (reads m k) t.count 0, outcome m (get_or (reads m k) t.count 0)) ∷ []) t.prefix ∙ sym (one_more (outcome m) (reads m k) t.count l);
+    prefix = front_more m k taken t.count t.within t.prefix l;
     settled = λ i h. dite (ℕ_discrete i t.count) (λ (q : i ≡ t.count). subst (λ (z : ℕ). IsSettledAt s (get_or (reads m k) z 0)) (sym q) e) (λ (q : i ≡ t.count → ⊥). t.settled i (omega arith));
     marked = λ _. sym (lt-ltb 0 (suc t.count) (omega arith));
   }
@@ -36,9 +63,3 @@ module _ {T O : Type 0} (m : Meant T O) (s : List (PieceState O)) (k : ℕ) (tak
   -- it has no next read
   pub is_advanced : t.count ≡ length (reads m k) → IsTask m s k taken true
   is_advanced e = record { count = t.count; within = t.within; prefix = t.prefix; settled = t.settled; marked = λ l. absurd (omega arith) }
-
-  module _ (next : ℕ → List (ℕ × O) → NextOf O) (law : IsNext m next) (inside : k < m.pieces) where
-    pub next_cases : ((next k taken ≡ Read (record { 0 = get_or (reads m k) t.count 0 })) × (t.count < length (reads m k))) ⊎ ((next k taken ≡ Ends (outcome m k)) × (t.count ≡ length (reads m k)))
-    next_cases = dite (dec_lt t.count (length (reads m k)))
-        (λ (l : t.count < length (reads m k)). inl (ap (next k) t.prefix ∙ law.reads_next k t.count inside l, l))
-        (λ (l : t.count < length (reads m k) → ⊥). let e : t.count ≡ length (reads m k) = (let w = t.within in omega arith) in inr (ap (next k) t.prefix ∙ ap (λ n. next k (firsts m k n)) e ∙ law.ends_with k inside, e))

@@ -1,11 +1,11 @@
 -- What a meaning gives for each piece, and its fold: the outcomes of the pieces in order.
-use Rattle.std.specs.Prelude.{◌≡◌, ℕ, zero, suc, ◌^◌, ◌<◌, ◌≤◌, List, [], ◌∷◌, ◌++◌, length, slice_index, Bool, ltb}
+use Rattle.std.specs.Prelude.{◌≡◌, ◌≢◌, ℕ, zero, suc, ◌^◌, ◌<◌, ◌≤◌, List, [], ◌∷◌, ◌++◌, length, slice_index, Bool, ltb}
 
 -- The pieces, numbered from 0. What a piece reads and comes to is a function of the outcomes of the pieces before it.
 pub record Meant (T O : Type 0) : Type 1 where
   -- how many pieces there are
   pub pieces : ℕ
-  -- the pieces that a piece uses, each at its first use
+  -- the pieces that a piece reads, each where it is first read
   pub reads_over : ℕ → List O → List ℕ
   -- what it comes to
   pub outcome_over : ℕ → List O → O
@@ -37,6 +37,8 @@ module _ {T O : Type 0} (m : Meant T O) where
     pub small : m.pieces < 2 ^ 32
     -- a piece reads pieces before it
     pub below : (k i : ℕ) → k < m.pieces → i < length (reads k) → slice_index (reads k) i < k
+    -- and none twice
+    pub once : (k i j : ℕ) → k < m.pieces → i < j → j < length (reads k) → slice_index (reads k) i ≢ slice_index (reads k) j
     -- a task takes no more than the reads of its piece
     pub within : (k : ℕ) (t : T) → k < m.pieces → m.is_task k t → m.taken t ≤ length (reads k)
     -- one that has a next read was advanced exactly where it has taken a read

@@ -2,7 +2,7 @@
 use Rattle.std.specs.Prelude.{◌≡◌, ℕ, ◌<◌, ◌≤◌, List, length, slice_get, slice_index, Bool, ltb, Some}
 use Rattle.settle_core.specs.Meant.{Meant, outcome, reads}
 use Rattle.settle_core.specs.Next.{firsts}
-use Rattle.settle_core.specs.State.{PieceState, Fresh, Held, Parked, Settled, IsSettledAt}
+use Rattle.settle_core.specs.State.{PieceState, Fresh, Held, Parked, Settled, settled_at, IsSettledAt}
 use Rattle.cxx_base.specs.declared.number.PieceNo.{PieceNo}
 
 module _ {T O : Type 0} (m : Meant T O) (s : List (PieceState O)) where
@@ -39,3 +39,7 @@ pub record Sound {T O : Type 0} (m : Meant T O) (s : List (PieceState O)) : Type
 -- Where all pieces before k are settled, and k is parked, the piece that it is parked on is settled.
 abbrev pub EarliestGoesOn : {O : Type 0} → List (PieceState O) → Type 0
 EarliestGoesOn s = (k : ℕ) (taken : List _) (advanced : Bool) (on : PieceNo) → ((j : ℕ) → j < k → IsSettledAt s j) → slice_get s k ≡ Some (Parked taken advanced on) → IsSettledAt s on.0
+
+-- Each settled piece has its outcome in the fold.
+abbrev pub SettlesFold : {T O : Type 0} → Meant T O → List (PieceState O) → Type 0
+SettlesFold m s = (k : ℕ) (o : _) → settled_at s k ≡ Some o → o ≡ outcome m k

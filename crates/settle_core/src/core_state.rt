@@ -29,7 +29,8 @@ impl<M: Meaning> Model for CoreState<M> {
 impl<M: Meaning> CoreState<M> {
     /// The state in which every piece is fresh.
     pub fn fresh(alloc: Global, meaning: &M) -> Result<CoreState<M>, Memory>
-        ensures { IfOk result (λ state. state ≡ all_fresh (M.meant meaning.now).pieces) }
+        ensures fresh { IfOk result (λ state. state ≡ all_fresh (M.meant meaning.now).pieces) }
+        ensures whole { IfOk result (λ state. length state ≡ (M.meant meaning.now).pieces) }
     {
         let mut pieces = Vec::new(alloc);
         for _ in 0..meaning.pieces() {

@@ -4,6 +4,8 @@
 
 mod core_state;
 mod core_step;
+mod folding;
+mod laws;
 mod meaning;
 mod next_of;
 mod piece_state;
@@ -13,9 +15,14 @@ mod taken_list;
 
 pub use core_state::CoreState;
 pub use core_step::CoreStep;
+pub use folding::in_order;
+pub use laws::{every_order_is_sound, reads_say_what_is_next};
 pub use meaning::Meaning;
 pub use next_of::NextOf;
 pub use piece_state::PieceState;
 pub use played::Played;
 pub use stepping::{replay, step};
 pub use taken_list::TakenList;
+
+#[cfg(test)]
+mod tests;

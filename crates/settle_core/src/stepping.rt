@@ -3,7 +3,7 @@
 ghost use Rattle.std.specs.Prelude.{◌≡◌, ◌<◌, length, IfOk, IfSome, OnSome};
 ghost use Rattle.settle_core.specs.Steps.{named, after_advance, made, stepped, replayed};
 ghost use Rattle.settle_core.specs.State.{all_fresh};
-ghost use Rattle.settle_core.specs.Sound.{Sound, EarliestGoesOn};
+ghost use Rattle.settle_core.specs.Sound.{Sound, SettlesFold, EarliestGoesOn};
 ghost use Rattle.settle_core.specs.Bound.{IsWithinBound};
 
 use crate::core_state::CoreState;
@@ -49,6 +49,7 @@ pub fn replay<M: Played>(
 ) -> Result<Option<CoreState<M>>, Memory>
     ensures exact { IfOk result (λ after. after ≡ replayed (M.next_of meaning.now) (all_fresh (M.meant meaning.now).pieces) steps.now) }
     ensures sound { IfOk result (λ after. IfSome after (Sound (M.meant meaning.now))) }
+    ensures fold { IfOk result (λ after. IfSome after (SettlesFold (M.meant meaning.now))) }
     ensures earliest { IfOk result (λ after. IfSome after EarliestGoesOn) }
     ensures bound { IfOk result (λ after. OnSome after (IsWithinBound (M.meant meaning.now) (M.next_of meaning.now) steps.now)) }
 {

@@ -1,6 +1,8 @@
 //! The outcomes that a task has taken.
 
-ghost use Rattle.std.specs.Prelude.{◌≡◌, ◌<◌, [], ◌∷◌, ◌++◌, length, OnOk, OnErr};
+ghost use Rattle.std.specs.Prelude.{◌≡◌, ◌<◌, [], ◌∷◌, ◌++◌, map, length, OnOk, OnErr};
+ghost use Rattle.std.specs.Option.{option_copied};
+ghost use Rattle.settle_core.specs.Next.{taken_outcome};
 
 use cxx_base::{Memory, PieceNo};
 use std::alloc::Global;
@@ -51,4 +53,22 @@ impl<O> TakenList<O> {
     {
         self.taken.len()
     }
+
+    /// The outcome of a piece, where it was taken. The list is searched from its start.
+    pub fn outcome_of(&self, piece: PieceNo) -> Option<&O>
+        ensures { option_copied result ≡ taken_outcome self.now piece.0 }
+    {
+        outcome_among(self.taken.as_slice(), piece)
+    }
+}
+
+fn outcome_among<O>(taken: &[(PieceNo, O)], piece: PieceNo) -> Option<&O>
+    ensures { option_copied result ≡ taken_outcome (map (λ t. (t.0.0, t.1)) taken.now) piece.0 }
+{
+    for (of, outcome) in taken {
+        if *of == piece {
+            return Some(outcome);
+        }
+    }
+    None
 }

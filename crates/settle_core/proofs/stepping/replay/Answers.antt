@@ -1,6 +1,6 @@
 use Rattle.std.proofs.Common.{Some, get_or, sym, ◌∙◌}
 use Rattle.settle_core.specs.State.{Claim}
-use Rattle.settle_core.proofs.Replays.{step_length, one_step, no_more, replay_sound, replay_goes_on, replay_within}
+use Rattle.settle_core.proofs.Replays.{step_length, one_step, no_more, replay_sound, replay_fold, replay_goes_on, replay_within}
 use Rattle.settle_core.proofs.stepping.replay.Goals as goal
 
 pub loop-next-preserved : goal.loop-next-preserved
@@ -22,6 +22,7 @@ returns g c =
     record {
       exact = exact;
       sound = replay_sound meant lawful next law c.args.steps.now (Some c.loop-next.state) exact;
+      fold = replay_fold meant lawful next law c.args.steps.now (Some c.loop-next.state) exact;
       earliest = replay_goes_on meant lawful next law c.args.steps.now (Some c.loop-next.state) exact;
       bound = replay_within meant lawful next law c.args.steps.now (Some c.loop-next.state) exact;
     }
