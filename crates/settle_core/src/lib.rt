@@ -8,6 +8,7 @@ mod folding;
 mod laws;
 mod meaning;
 mod next_of;
+mod piece_moves;
 mod piece_state;
 mod played;
 mod stepping;

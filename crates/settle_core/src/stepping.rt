@@ -1,18 +1,16 @@
 //! One step, and a list of steps.
 
-ghost use Rattle.std.specs.Prelude.{◌≡◌, ◌<◌, length, IfOk, IfSome, OnSome};
-ghost use Rattle.settle_core.specs.Steps.{named, after_advance, made, stepped, replayed};
+ghost use Rattle.std.specs.Prelude.{◌≡◌, length, IfOk, IfSome, OnSome};
+ghost use Rattle.settle_core.specs.Steps.{stepped, replayed};
 ghost use Rattle.settle_core.specs.State.{all_fresh};
 ghost use Rattle.settle_core.specs.Sound.{Sound, SettlesFold, EarliestGoesOn};
 ghost use Rattle.settle_core.specs.Bound.{IsWithinBound};
 
 use crate::core_state::CoreState;
 use crate::core_step::CoreStep;
-use crate::next_of::NextOf;
-use crate::piece_state::PieceState;
+use crate::piece_moves::moved;
 use crate::played::Played;
-use crate::taken_list::TakenList;
-use cxx_base::{Memory, PieceNo};
+use cxx_base::Memory;
 use std::alloc::Global;
 
 /// The state that a step makes of the one handed in, or None exactly where the step's condition fails. At None and without
@@ -61,114 +59,4 @@ pub fn replay<M: Played>(
         state = after;
     }
     Ok(Some(state))
-}
-
-// What a step makes of the piece that it names, which was taken out of the state.
-fn moved<M: Played>(
-    alloc: Global,
-    meaning: &M,
-    state: &CoreState<M>,
-    next: CoreStep,
-    piece: PieceState<M::Outcome>,
-) -> Result<Option<PieceState<M::Outcome>>, Memory>
-    requires { named next < (M.meant meaning.now).pieces }
-    ensures { IfOk result (λ after. after ≡ made (M.next_of meaning.now) state.now next piece) }
-{
-    match (next, piece) {
-        (CoreStep::Claim(_, worker), PieceState::Fresh) => Ok(Some(PieceState::Held {
-            worker,
-            taken: TakenList::new(alloc),
-            advanced: false,
-        })),
-        (
-            CoreStep::Advance(k),
-            PieceState::Held {
-                worker,
-                taken,
-                advanced,
-            },
-        ) => advance(alloc, meaning, state, k, worker, taken, advanced),
-        (
-            CoreStep::Park(k, on),
-            PieceState::Held {
-                taken,
-                advanced,
-                ..
-            },
-        ) => {
-            let next = meaning.next(alloc, k, &taken)?;
-            Ok(match next {
-                NextOf::Read(j) if j == on => Some(PieceState::Parked {
-                    taken,
-                    advanced,
-                    on,
-                }),
-                _ => None,
-            })
-        }
-        (
-            CoreStep::Resume(_, worker),
-            PieceState::Parked {
-                taken,
-                advanced,
-                on,
-            },
-        ) => {
-            Ok(match state.outcome(on) {
-                Some(_) => Some(PieceState::Held {
-                    worker,
-                    taken,
-                    advanced,
-                }),
-                None => None,
-            })
-        }
-        (
-            CoreStep::Settle(k),
-            PieceState::Held {
-                taken,
-                advanced,
-                ..
-            },
-        ) => {
-            let next = meaning.next(alloc, k, &taken)?;
-            Ok(match next {
-                NextOf::Ends(outcome) if advanced => Some(PieceState::Settled(outcome)),
-                _ => None,
-            })
-        }
-        _ => Ok(None),
-    }
-}
-
-fn advance<M: Played>(
-    alloc: Global,
-    meaning: &M,
-    state: &CoreState<M>,
-    k: PieceNo,
-    worker: u32,
-    mut taken: TakenList<M::Outcome>,
-    advanced: bool,
-) -> Result<Option<PieceState<M::Outcome>>, Memory>
-    requires { k.0 < (M.meant meaning.now).pieces }
-    ensures { IfOk result (λ after. after ≡ after_advance state.now worker taken advanced (M.next_of meaning.now k.0 taken)) }
-{
-    match meaning.next(alloc, k, &taken)? {
-        NextOf::Read(j) => {
-            let Some(outcome) = state.outcome(j) else {
-                return Ok(None);
-            };
-            taken.push(j, meaning.copy(alloc, outcome)?)?;
-        }
-        NextOf::Ends(_) => {
-            if advanced {
-                return Ok(None);
-            }
-        }
-    }
-    Ok(Some(PieceState::Held {
-        worker,
-        taken,
-        advanced: true,
-    }))
 }
