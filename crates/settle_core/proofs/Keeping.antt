@@ -9,7 +9,7 @@ use Rattle.settle_core.specs.Meant.{Meant, Lawful, reads}
 use Rattle.settle_core.specs.Next.{NextOf, IsNext}
 use Rattle.settle_core.specs.State.{PieceState, Fresh, Held, Parked, Settled, CoreStep, Claim, Advance, Park, Resume, Settle, outcome_in, IsSettledAt}
 use Rattle.settle_core.specs.Steps.{named, made, stepped}
-use Rattle.settle_core.specs.Sound.{IsTask, IsSound, Sound}
+use Rattle.settle_core.specs.Sound.{IsSoundTask, IsSound, Sound}
 use Rattle.settle_core.specs.Bound.{idle}
 use Rattle.settle_core.proofs.Lists.{get_set_same, get_set_other}
 use Rattle.settle_core.proofs.Options.{some_injective, none_is_no_some, from_map, from_bind}
@@ -63,7 +63,7 @@ module _ {O : Type 0} (next : ℕ → List (ℕ × O) → NextOf O) (s t : List 
     elsewhere j n = ap (λ l. slice_get l j) (sym d.after) ∙ get_set_other s (named step) j d.q n
 
 module _ {T O : Type 0} (m : Meant T O) (s t : List (PieceState O)) (grows : (j : ℕ) → IsSettledAt s j → IsSettledAt t j) (k : ℕ) where
-  abbrev task_stays : (taken : List (ℕ × O)) (mark : Bool) → IsTask m s k taken mark → IsTask m t k taken mark
+  abbrev task_stays : (taken : List (ℕ × O)) (mark : Bool) → IsSoundTask m s k taken mark → IsSoundTask m t k taken mark
   task_stays taken mark h = record { count = h.count; within = h.within; prefix = h.prefix; settled = λ i l. grows (get_or (reads m k) i 0) (h.settled i l); marked = h.marked }
 
   pub sound_stays : (p : PieceState O) → IsSound m s k p → IsSound m t k p

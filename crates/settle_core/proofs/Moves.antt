@@ -6,7 +6,7 @@ use Rattle.settle_core.specs.Meant.{Meant, Lawful, outcome, reads}
 use Rattle.settle_core.specs.Next.{NextOf, Read, Ends, IsNext}
 use Rattle.settle_core.specs.State.{PieceState, Fresh, Held, Parked, Settled, CoreStep, Claim, Advance, Park, Resume, Settle, settled_at, IsSettledAt, outcome_in}
 use Rattle.settle_core.specs.Steps.{named, after_advance, after_park, after_resume, after_settle, made}
-use Rattle.settle_core.specs.Sound.{IsTask, IsParkedTask, IsSound, Sound}
+use Rattle.settle_core.specs.Sound.{IsSoundTask, IsSoundPark, IsSound, Sound}
 use Rattle.settle_core.specs.Bound.{idle}
 use Rattle.settle_core.proofs.Options.{some_injective, none_is_no_some, from_map}
 use Rattle.settle_core.proofs.Tasks.{front_length, takes_more, is_advanced, next_cases}
@@ -68,13 +68,13 @@ module _ {T O : Type 0} (m : Meant T O) (lawful : Lawful m) (next : ℕ → List
     more = omega arith;
   }
 
-  module _ (worker : ℕ) (taken : List (ℕ × O)) (mark : Bool) (t : IsTask m s k taken mark) where
+  module _ (worker : ℕ) (taken : List (ℕ × O)) (mark : Bool) (t : IsSoundTask m s k taken mark) where
     abbrev j : ℕ
     j = get_or (reads m k) t.count 0
 
     takes : (o : O) → settled_at s j ≡ Some o → t.count < length (reads m k) → Moved 0 (Held worker taken mark) (Held worker (taken ++ (j, o) ∷ []) true)
     takes o e l = let here : IsSettledAt s j = ap is_some e in record {
-      is_sound = subst (λ (x : O). IsTask m s k (taken ++ (j, x) ∷ []) true) (sym (settled_outcome m s sound j o e)) (takes_more m s k taken mark t l here);
+      is_sound = subst (λ (x : O). IsSoundTask m s k (taken ++ (j, x) ∷ []) true) (sym (settled_outcome m s sound j o e)) (takes_more m s k taken mark t l here);
       more = let n = front_length m k taken t.count t.within t.prefix in
           let b : bonus m s k (length taken) ≡ 2 = ap (bonus m s k) n ∙ bonus_settled t.count l here in
           let f = one_at_most mark in
@@ -130,7 +130,7 @@ module _ {T O : Type 0} (m : Meant T O) (lawful : Lawful m) (next : ℕ → List
         (λ r. settles_by mark refl r.1 q (sym (ap (after_settle mark) r.0) ∙ e))
         (next_cases m k taken t.count t.within t.prefix next law inside)
 
-  resumes : (worker : ℕ) (taken : List (ℕ × O)) (mark : Bool) (on : PieceNo) → IsParkedTask m s k taken mark on → (q : PieceState O) → after_resume s worker taken mark on ≡ Some q → Moved 0 (Parked taken mark on) q
+  resumes : (worker : ℕ) (taken : List (ℕ × O)) (mark : Bool) (on : PieceNo) → IsSoundPark m s k taken mark on → (q : PieceState O) → after_resume s worker taken mark on ≡ Some q → Moved 0 (Parked taken mark on) q
   resumes worker taken mark on t q e = let f = from_map (λ o. Held worker taken mark) (settled_at s on.0) q e in subst (Moved 0 (Parked taken mark on)) f.2 record {
     is_sound = t.task;
     more = let n = front_length m k taken t.task.count t.task.within t.task.prefix in

@@ -1,5 +1,5 @@
 -- What a value that came out of an optional one says of it.
-use Rattle.std.proofs.Common.{◌≡◌, Option, Some, None, refl}
+use Rattle.std.proofs.Common.{◌≡◌, Option, Some, None, IsSome, refl}
 use Rattle.std.specs.Option.{option_map}
 use Rattle.settle_core.specs.Steps.{option_bind}
 
@@ -9,6 +9,10 @@ module _ {A : Type 0} where
 
   pub none_is_no_some : (x : A) → ◌≡◌ {A = Option A} None (Some x) → ⊥
   none_is_no_some x e = cc
+
+  pub from_some : (o : Option A) → IsSome o → (x : A) × (o ≡ Some x)
+  from_some None h = absurd (let b : ⊥ = cc in b)
+  from_some (Some x) h = (x, refl)
 
 module _ {A B : Type 0} where
   pub from_map : (f : A → B) (o : Option A) (y : B) → option_map f o ≡ Some y → (x : A) × (o ≡ Some x) × (f x ≡ y)

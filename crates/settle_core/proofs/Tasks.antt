@@ -6,7 +6,7 @@ use Rattle.cxx_base.specs.declared.number.PieceNo.{PieceNo}
 use Rattle.settle_core.specs.Meant.{Meant, outcome, reads}
 use Rattle.settle_core.specs.Next.{NextOf, Read, Ends, firsts, IsNext}
 use Rattle.settle_core.specs.State.{PieceState, IsSettledAt}
-use Rattle.settle_core.specs.Sound.{IsTask}
+use Rattle.settle_core.specs.Sound.{IsSoundTask}
 
 module _ {O : Type 0} (out : ℕ → O) where
   one_more : (xs : List ℕ) (n : ℕ) → n < length xs → map {B = ℕ × O} (λ j. (j, out j)) (take (suc n) xs) ≡ map {B = ℕ × O} (λ j. (j, out j)) (take n xs) ++ (get_or xs n 0, out (get_or xs n 0)) ∷ []
@@ -48,10 +48,10 @@ module _ {T O : Type 0} (m : Meant T O) (k : ℕ) (taken : List (ℕ × O)) (n :
     pub ends_if : (o : O) → next k taken ≡ Ends o → o ≡ outcome m k
     ends_if o e = ⊎_elim (λ r. absurd (read_is_no_end (record { 0 = get_or (reads m k) n 0 }) o (sym r.0 ∙ e))) (λ r. end_is o (outcome m k) (sym e ∙ r.0)) next_cases
 
-module _ {T O : Type 0} (m : Meant T O) (s : List (PieceState O)) (k : ℕ) (taken : List (ℕ × O)) (mark : Bool) (t : IsTask m s k taken mark) where
+module _ {T O : Type 0} (m : Meant T O) (s : List (PieceState O)) (k : ℕ) (taken : List (ℕ × O)) (mark : Bool) (t : IsSoundTask m s k taken mark) where
   -- it takes one read more
   pub takes_more : t.count < length (reads m k) → IsSettledAt s (get_or (reads m k) t.count 0)
-      → IsTask m s k (taken ++ (get_or (reads m k) t.count 0, outcome m (get_or (reads m k) t.count 0)) ∷ []) true
+      → IsSoundTask m s k (taken ++ (get_or (reads m k) t.count 0, outcome m (get_or (reads m k) t.count 0)) ∷ []) true
   takes_more l e = record {
     count = suc t.count;
     within = omega arith;
@@ -61,5 +61,5 @@ module _ {T O : Type 0} (m : Meant T O) (s : List (PieceState O)) (k : ℕ) (tak
   }
 
   -- it has no next read
-  pub is_advanced : t.count ≡ length (reads m k) → IsTask m s k taken true
+  pub is_advanced : t.count ≡ length (reads m k) → IsSoundTask m s k taken true
   is_advanced e = record { count = t.count; within = t.within; prefix = t.prefix; settled = t.settled; marked = λ l. absurd (omega arith) }

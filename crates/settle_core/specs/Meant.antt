@@ -33,6 +33,7 @@ module _ {T O : Type 0} (m : Meant T O) where
   unfoldable pub reads : ℕ → List ℕ
   reads k = m.reads_over k (fold k)
 
+  -- What holds of each meaning
   pub record Lawful : Type 0 where
     pub small : m.pieces < 2 ^ 32
     -- a piece reads pieces before it

@@ -1,11 +1,12 @@
 -- The steps of the machine, each with its condition, and lists of steps.
-use Rattle.std.specs.Prelude.{ℕ, List, [], ◌∷◌, ◌++◌, Bool, true, false, if◌then◌else◌, ◌==◌, slice_get, slice_set, Option, None, Some}
+use Rattle.std.specs.Prelude.{◌≡◌, ℕ, List, [], ◌∷◌, ◌++◌, Bool, true, false, if◌then◌else◌, ◌==◌, slice_get, slice_set, Option, None, Some}
 use Rattle.std.specs.Option.{option_map}
 use Rattle.settle_core.specs.declared.next_of.NextOf.{NextOf}
 use Rattle.settle_core.specs.declared.next_of.NextOf.TheVariants.{Read, Ends}
-use Rattle.settle_core.specs.State.{PieceState, Fresh, Held, Parked, Settled, CoreStep, Claim, Advance, Park, Resume, Settle, settled_at}
+use Rattle.settle_core.specs.State.{PieceState, Fresh, Held, Parked, Settled, CoreStep, Claim, Advance, Park, Resume, Settle, all_fresh, settled_at}
 use Rattle.cxx_base.specs.declared.number.PieceNo.{PieceNo}
 
+-- f of the value, if there is one
 abbrev pub option_bind : {A B : Type 0} → Option A → (A → Option B) → Option B
 option_bind None f = None
 option_bind (Some x) f = f x
@@ -59,3 +60,7 @@ module _ {O : Type 0} (next : ℕ → List (ℕ × O) → NextOf O) where
   abbrev pub replayed : List (PieceState O) → List CoreStep → Option (List (PieceState O))
   replayed s [] = Some s
   replayed s (step ∷ steps) = option_bind (stepped s step) (λ t. replayed t steps)
+
+  -- A state is reached by some list of steps, from the one in which every piece is fresh.
+  abbrev pub IsReached : ℕ → List (PieceState O) → Type 0
+  IsReached pieces s = (steps : List CoreStep) × (replayed (all_fresh pieces) steps ≡ Some s)
