@@ -3,7 +3,7 @@
 ghost use Rattle.std.specs.Prelude.{◌≡◌, IfOk};
 ghost use Rattle.cxx_base.specs.declared.operator.IntKind.TheVariants.{Int};
 ghost use Rattle.int_kinds.specs.Kind.{IsInRange};
-ghost use Rattle.int_kinds.specs.Operate.{IsArithmetic, applied};
+ghost use Rattle.int_kinds.specs.Operate.{applied};
 ghost use Rattle.reflect_cli.specs.Chains as chain;
 ghost use Rattle.reflect_cli.specs.Values as spec;
 
@@ -19,8 +19,7 @@ pub struct Refused {
 }
 
 fn operator_of(operator: Arithmetic) -> IntOp
-    ensures operator { result ≡ spec.operator_of operator }
-    ensures arithmetic { IsArithmetic result }
+    ensures { result ≡ spec.operator_of operator }
 {
     match operator {
         Arithmetic::Add => IntOp::Add,
