@@ -1,5 +1,12 @@
-pub mod Ascii
-pub mod Fronted
-pub mod Longest
+pub mod Beginnings
+pub mod Composed
+pub mod Cut
+pub mod Gaps
+pub mod Integers
+pub mod Literals
+pub mod Runs
+pub mod Search
+pub mod Sources
 pub mod Turning
+pub mod Values
 pub mod Words

@@ -1,61 +1,97 @@
 -- One turn of the lexer.
-use Rattle.std.proofs.Common.{◌≡◌, ℕ, zero, suc, ◌+◌, ◌-◌, ◌<◌, ◌≤◌, true, false, List, [], ◌∷◌, ◌++◌, length, get_or, take, drop, Result, Ok, Err, refl, sym, ap, ◌∙◌, arith}
+use Rattle.std.proofs.Common.{◌≡◌, ◌==◌, ℕ, zero, suc, ◌+◌, ◌-◌, ◌<◌, ◌≤◌, not, List, [], ◌∷◌, ◌++◌, length, take, drop, Option, Some, None, Result, Ok, Err, refl, sym, ap, ◌∙◌, arith}
 use Rattle.std.proofs.lemmas.List.{append_assoc, append-nil, length-append}
 use Rattle.cxx_base.specs.Texts.{Text, with_texts}
 use Rattle.cxx_base.specs.declared.place.Place.{Place}
-use Rattle.cxx_tokens.specs.declared.lexing.LexFault.{LexFault}
-use Rattle.cxx_tokens.specs.declared.token.Token.{Token}
-use Rattle.cxx_tokens.specs.Lex.{members, Found, Lexed, lex_from, behind, token_at, token_from, after, after_all, is_gap}
+use Rattle.cxx_tokens.specs.Characters.{Characters, after, after_all}
+use Rattle.cxx_tokens.specs.Gaps.{gap_at}
+use Rattle.cxx_tokens.specs.Gives.{Fails}
+use Rattle.cxx_tokens.specs.Lex.{Found, Lexed, behind, lex_from, members, token_at, token_from}
 use Rattle.cxx_tokens.specs.Turns.{lexed_on}
+use Rattle.cxx_tokens.specs.declared.fault.LexFault.{LexFault}
+use Rattle.cxx_tokens.specs.declared.fault.LexFault.TheVariants.{L1, L2, L3, L4, L5, Memory}
+use Rattle.cxx_tokens.specs.declared.lexing.Position.{Position}
+use Rattle.cxx_tokens.specs.declared.token.Token.{Token}
 
--- the characters that are left of a token are passed
-skips : (left : ℕ) (place : Place) (number : ℕ) (names : List Text) (text : Text) → left ≤ length text
-    → lex_from left place number names text ≡ lex_from 0 (after_all place (take left text)) number names (drop left text)
-skips zero place number names text h = refl
-skips (suc left) place number names [] h = absurd (omega (arith, h))
-skips (suc left) place number names (c ∷ text) h = skips left (after place c) number names text (omega (arith, h))
+-- the characters that are left of a gap or a token are passed
+skips : (left : ℕ) (place : Place) (last number : ℕ) (names : List Text) (text : Characters) → left ≤ length text
+    → lex_from left place last number names text ≡ lex_from 0 (after_all place (take left text)) last number names (drop left text)
+skips zero place last number names text h = refl
+skips (suc left) place last number names [] h = absurd (omega (arith, h))
+skips (suc left) place last number names (c ∷ text) h = skips left (after place c) last number names text (omega (arith, h))
+
+first_is_gone : (place : Place) (last number : ℕ) (names : List Text) (c : ℕ) (text : Characters) (n : ℕ) → 0 < n → n ≤ length (c ∷ text)
+    → lex_from (n - 1) (after place c) last number names text ≡ lex_from 0 (after_all place (take n (c ∷ text))) last number names (drop n (c ∷ text))
+first_is_gone place last number names c text zero some within = absurd (omega (arith, some))
+first_is_gone place last number names c text (suc n) some within =
+    let same : suc n - 1 ≡ n = omega arith in
+    ap (λ k. lex_from k (after place c) last number names text) same ∙ skips n (after place c) last number names text (omega (arith, within))
 
 behind-behind : (a b : List Token) (rest : Result Lexed LexFault) → behind a (behind b rest) ≡ behind (a ++ b) rest
 behind-behind a b (Ok found) = ap (λ tokens. Ok (record found { tokens = tokens })) (sym (append_assoc a b found.tokens))
 behind-behind a b (Err fault) = refl
 
--- a gap
-pub gap_turn : (tokens : List Token) (place : Place) (names : List Text) (text : Text) → 0 < length text → is_gap (get_or text 0 0) ≡ true
-    → lexed_on tokens place names text ≡ lexed_on tokens (after_all place (take 1 text)) names (drop 1 text)
-gap_turn tokens place names [] some h = absurd (omega (arith, some))
-gap_turn tokens place names (c ∷ text) some h = ap (behind tokens) (rw h refl)
+-- what the text is cut into next
+abbrev pub next_gap : Position → Characters → Result (Option ℕ) LexFault
+next_gap at text = gap_at at.place (not (at.last == at.place.line)) text
 
-first_is_gone : (place : Place) (number : ℕ) (names : List Text) (c : ℕ) (text : Text) (n : ℕ) → 0 < n → n ≤ length (c ∷ text)
-    → lex_from (n - 1) (after place c) number names text ≡ lex_from 0 (after_all place (take n (c ∷ text))) number names (drop n (c ∷ text))
-first_is_gone place number names c text zero some within = absurd (omega (arith, some))
-first_is_gone place number names c text (suc n) some within =
-    let same : suc n - 1 ≡ n = omega arith in
-    ap (λ k. lex_from k (after place c) number names text) same ∙ skips n (after place c) number names text (omega (arith, within))
+-- a gap
+pub gap_turn : (tokens : List Token) (at : Position) (names : List Text) (text : Characters) (n : ℕ) → next_gap at text ≡ Ok (Some n) → 0 < n → n ≤ length text
+    → lexed_on tokens at names text ≡ lexed_on tokens (record { place = after_all at.place (take n text); last = at.last }) names (drop n text)
+gap_turn tokens at names [] n h some within = absurd (omega (arith, some, within))
+gap_turn tokens at names (c ∷ text) n h some within =
+    let first : lex_from 0 at.place at.last (length tokens) names (c ∷ text) ≡ lex_from (n - 1) (after at.place c) at.last (length tokens) names text = rw h refl in
+    ap (behind tokens) (first ∙ first_is_gone at.place at.last (length tokens) names c text n some within)
 
 -- a token
-pub token_turn : (tokens : List Token) (place : Place) (names : List Text) (text : Text) (found : Found) → 0 < length text → is_gap (get_or text 0 0) ≡ false
-    → token_at place names text ≡ Ok found → 0 < found.length → found.length ≤ length text
-    → lexed_on tokens place names text
-    ≡ lexed_on (tokens ++ token_from found.kind place (length tokens) ∷ []) (after_all place (take found.length text)) found.names (drop found.length text)
-token_turn tokens place names [] found some h e positive within = absurd (omega (arith, some))
-token_turn tokens place names (c ∷ text) found some h e positive within =
+pub token_turn : (tokens : List Token) (at : Position) (names : List Text) (text : Characters) (found : Found) → next_gap at text ≡ Ok None
+    → token_at at.place names text ≡ Ok found → 0 < found.length → found.length ≤ length text
+    → lexed_on tokens at names text
+    ≡ lexed_on (tokens ++ token_from found.kind at.place (length tokens) ∷ []) (record { place = after_all at.place (take found.length text); last = at.place.line }) found.names (drop found.length text)
+token_turn tokens at names [] found gap e some within = absurd (omega (arith, some, within))
+token_turn tokens at names (c ∷ text) found gap e some within =
     let number = length tokens in
-    let tok = token_from found.kind place number in
+    let tok = token_from found.kind at.place number in
     let longer : number + 1 ≡ length (tokens ++ tok ∷ []) = sym (length-append tokens (tok ∷ [])) in
-    let first : lex_from 0 place number names (c ∷ text) ≡ behind (tok ∷ []) (lex_from (found.length - 1) (after place c) (number + 1) found.names text) = rw (h, e) refl in
+    let first : lex_from 0 at.place at.last number names (c ∷ text) ≡ behind (tok ∷ []) (lex_from (found.length - 1) (after at.place c) at.place.line (number + 1) found.names text) = rw (gap, e) refl in
     ap (behind tokens) first ∙ behind-behind tokens (tok ∷ []) _
-    ∙ ap (behind (tokens ++ tok ∷ [])) (first_is_gone place (number + 1) found.names c text found.length positive within
-    ∙ ap (λ k. lex_from 0 (after_all place (take found.length (c ∷ text))) k found.names (drop found.length (c ∷ text))) longer)
+    ∙ ap (behind (tokens ++ tok ∷ [])) (first_is_gone at.place at.place.line (number + 1) found.names c text found.length some within
+    ∙ ap (λ k. lex_from 0 (after_all at.place (take found.length (c ∷ text))) at.place.line k found.names (drop found.length (c ∷ text))) longer)
 
--- a fault
-pub fault_turn : (tokens : List Token) (place : Place) (names : List Text) (text : Text) (fault : LexFault) → 0 < length text → is_gap (get_or text 0 0) ≡ false
-    → token_at place names text ≡ Err fault → lexed_on tokens place names text ≡ Err fault
-fault_turn tokens place names [] fault some h e = absurd (omega (arith, some))
-fault_turn tokens place names (c ∷ text) fault some h e = rw (h, e) refl
+-- a fault at a gap, and one at a token
+gap_fault : (tokens : List Token) (at : Position) (names : List Text) (text : Characters) (fault : LexFault) → 0 < length text → next_gap at text ≡ Err fault
+    → lexed_on tokens at names text ≡ Err fault
+gap_fault tokens at names [] fault some h = absurd (omega (arith, some))
+gap_fault tokens at names (c ∷ text) fault some h = rw h refl
+
+token_fault : (tokens : List Token) (at : Position) (names : List Text) (text : Characters) (fault : LexFault) → 0 < length text → next_gap at text ≡ Ok None
+    → token_at at.place names text ≡ Err fault → lexed_on tokens at names text ≡ Err fault
+token_fault tokens at names [] fault some gap e = absurd (omega (arith, some))
+token_fault tokens at names (c ∷ text) fault some gap e = rw (gap, e) refl
+
+pub Fails-at_token : (tokens : List Token) (at : Position) (names : List Text) (text : Characters) (fault : LexFault) → 0 < length text → next_gap at text ≡ Ok None
+    → Fails fault (token_at at.place names text) → Fails fault (lexed_on tokens at names text)
+Fails-at_token tokens at names text Memory some gap h = tt
+Fails-at_token tokens at names text (L1 place) some gap h = token_fault tokens at names text (L1 place) some gap h
+Fails-at_token tokens at names text (L2 place) some gap h = token_fault tokens at names text (L2 place) some gap h
+Fails-at_token tokens at names text (L3 place) some gap h = token_fault tokens at names text (L3 place) some gap h
+Fails-at_token tokens at names text (L4 place) some gap h = token_fault tokens at names text (L4 place) some gap h
+Fails-at_token tokens at names text (L5 place) some gap h = token_fault tokens at names text (L5 place) some gap h
+
+pub Fails-at_gap : (tokens : List Token) (at : Position) (names : List Text) (text : Characters) (fault : LexFault) → 0 < length text → next_gap at text ≡ Err fault
+    → Fails fault (lexed_on tokens at names text)
+Fails-at_gap tokens at names text Memory some h = tt
+Fails-at_gap tokens at names text (L1 place) some h = gap_fault tokens at names text (L1 place) some h
+Fails-at_gap tokens at names text (L2 place) some h = gap_fault tokens at names text (L2 place) some h
+Fails-at_gap tokens at names text (L3 place) some h = gap_fault tokens at names text (L3 place) some h
+Fails-at_gap tokens at names text (L4 place) some h = gap_fault tokens at names text (L4 place) some h
+Fails-at_gap tokens at names text (L5 place) some h = gap_fault tokens at names text (L5 place) some h
 
 -- the end
-pub no_more : (tokens : List Token) (place : Place) (names : List Text) → lexed_on tokens place names [] ≡ Ok (record { tokens = tokens; names = with_texts names members; end = place })
-no_more tokens place names = ap (λ all. Ok (record { tokens = all; names = with_texts names members; end = place })) (append-nil tokens)
+pub no_more : (tokens : List Token) (at : Position) (names : List Text) (text : Characters) → text ≡ []
+    → lexed_on tokens at names text ≡ Ok (record { tokens = tokens; names = with_texts names members; end = at.place })
+no_more tokens at names text h =
+    ap (lexed_on tokens at names) h ∙ ap (λ all. Ok (record { tokens = all; names = with_texts names members; end = at.place })) (append-nil tokens)
 
 pub behind_none : (rest : Result Lexed LexFault) → behind [] rest ≡ rest
 behind_none (Ok found) = refl

@@ -34,7 +34,7 @@ other_length word text h = by (bytes_eq word text) refl
         let same : eqb (length word) (length text) ≡ true = (Decides-eqb (length word) (length text)).1 (ap length ((bytes_decides word text).0 e)) in
         absurd (cc (same, h))
 
-get_or-now : (refs : List (Bor (List ℕ))) (n : ℕ) → (get_or refs n (record { ref_ptr = (0, 0); now = [] })).now ≡ get_or (map (λ r. r.now) refs) n []
+pub get_or-now : (refs : List (Bor (List ℕ))) (n : ℕ) → (get_or refs n (record { ref_ptr = (0, 0); now = [] })).now ≡ get_or (map (λ r. r.now) refs) n []
 get_or-now [] n = refl
 get_or-now (r ∷ refs) zero = refl
 get_or-now (r ∷ refs) (suc n) = get_or-now refs n
@@ -84,7 +84,7 @@ abbrev pub all_below : ℕ → (ℕ → Bool) → Bool
 all_below zero p = true
 all_below (suc n) p = p n && all_below n p
 
-below_passes : (n : ℕ) (p : ℕ → Bool) → all_below n p ≡ true → (k : ℕ) → k < n → p k ≡ true
+pub below_passes : (n : ℕ) (p : ℕ → Bool) → all_below n p ≡ true → (k : ℕ) → k < n → p k ≡ true
 below_passes zero p h k less = absurd (omega (arith, less))
 below_passes (suc n) p h k less = by (p n) refl h (eqb k n) refl (λ rest less. below_passes n p rest k less)
   where

@@ -1,22 +1,31 @@
 -- What the functions of the lexer give: what the definitions say, unless memory ran out.
 use Rattle.std.specs.Prelude.{◌≡◌, List, ◌++◌, Result, Ok, Err}
 use Rattle.cxx_base.specs.Texts.{Text}
-use Rattle.cxx_tokens.specs.Lex.{Lexed}
-use Rattle.cxx_tokens.specs.declared.lexing.LexFault.{LexFault}
-use Rattle.cxx_tokens.specs.declared.lexing.LexFault.TheVariants.{L2, L3, L5, Memory}
-use Rattle.cxx_tokens.specs.declared.token.TokenKind.{TokenKind}
+use Rattle.cxx_tokens.specs.Lex.{Found, Lexed}
+use Rattle.cxx_tokens.specs.Literals.{Quoted}
+use Rattle.cxx_tokens.specs.declared.fault.LexFault.{LexFault}
+use Rattle.cxx_tokens.specs.declared.fault.LexFault.TheVariants.{L1, L2, L3, L4, L5, Memory}
+use Rattle.cxx_tokens.specs.declared.lexing.FoundToken.{FoundToken}
+use Rattle.cxx_tokens.specs.declared.quoted.Quoted.{Quoted as KeptQuoted}
 use Rattle.cxx_tokens.specs.declared.token.Tokens.{Tokens}
 
 -- a refusal is the defined one
 abbrev pub Fails : {A : Type 0} → LexFault → Result A LexFault → Type 0
 Fails Memory read = Unit {0}
+Fails (L1 place) read = read ≡ Err (L1 place)
 Fails (L2 place) read = read ≡ Err (L2 place)
 Fails (L3 place) read = read ≡ Err (L3 place)
+Fails (L4 place) read = read ≡ Err (L4 place)
 Fails (L5 place) read = read ≡ Err (L5 place)
 
-abbrev pub GivesKind : Result TokenKind LexFault → Result TokenKind LexFault → Type 0
-GivesKind (Ok kind) read = read ≡ Ok kind
-GivesKind (Err fault) read = Fails fault read
+abbrev pub GivesQuoted : Result KeptQuoted LexFault → Result Quoted LexFault → Type 0
+GivesQuoted (Ok found) read = read ≡ Ok (record { length = found.cut.length; bytes = found.bytes })
+GivesQuoted (Err fault) read = Fails fault read
+
+-- a token with its length, and the names after the call
+abbrev pub GivesToken : Result FoundToken LexFault → List Text → Result Found LexFault → Type 0
+GivesToken (Ok found) names read = read ≡ Ok (record { kind = found.kind; length = found.cut.length; names = names })
+GivesToken (Err fault) names read = Fails fault read
 
 -- the tokens, with the names after the call
 abbrev pub GivesTokens : Result Tokens LexFault → List Text → Result Lexed LexFault → Type 0

@@ -1,140 +1,124 @@
--- The tokens of a text, after [lex]. A text is a list of bytes. One beyond ASCII begins no token, so each character of a
--- token is one byte.
-use Rattle.std.specs.Prelude.{ℕ, zero, suc, ◌+◌, ◌-◌, ◌*◌, ◌^◌, Bool, true, false, ◌&&◌, ◌||◌, ◌==◌, nat_lt, if◌then◌else◌, List, [], ◌∷◌, ◌++◌, length, take, drop, fold, Option, Some, None, Result, Ok, Err, codes}
-use Rattle.std.specs.Char.{is_ascii_alphabetic, is_ascii_alphanumeric, is_ascii_digit}
-use Rattle.std.specs.List.{list_all, position_from}
+-- The tokens of a source text, after [lex].
+use Rattle.std.specs.Prelude.{ℕ, zero, suc, ◌+◌, ◌-◌, Bool, false, ◌&&◌, not, ◌==◌, nat_lt, if◌then◌else◌, List, [], ◌∷◌, ◌++◌, length, take, drop, Option, Some, None, Result, Ok, Err, chars, codes, encode_utf8_all}
+use Rattle.std.specs.Char.{is_ascii_digit}
+use Rattle.std.specs.List.{list_all, position_from, prefix_len}
 use Rattle.std.specs.Option.{is_some}
-use Rattle.std.specs.Str.{bytes_eq}
+use Rattle.std.specs.Str.{bytes_eq, is_utf8}
 use Rattle.cxx_base.specs.Texts.{Text, number_of, with_text, with_texts}
 use Rattle.cxx_base.specs.declared.place.Place.{Place}
-use Rattle.cxx_tokens.specs.declared.lexing.LexFault.{LexFault}
-use Rattle.cxx_tokens.specs.declared.lexing.LexFault.TheVariants.{L2, L3, L5}
-use Rattle.cxx_tokens.specs.declared.punctuator.TheConstants.{SEMICOLON, PLUS, MINUS, STAR, SLASH, PERCENT, EQUAL}
+use Rattle.int_kinds.specs.Literal.{kind_of_literal}
+use Rattle.unicode_normalization.specs.Forms.{is_in_form}
+use Rattle.ucd_normal.specs.declared.forms.Form.TheVariants.{Nfc}
+use Rattle.cxx_tokens.specs.Characters.{Characters, characters_of, after, after_all, start, begins_identifier, continues_identifier, first_is}
+use Rattle.cxx_tokens.specs.Gaps.{gap_at}
+use Rattle.cxx_tokens.specs.Literals.{Integer, integer_at, Escape, character_at, string_at}
+use Rattle.cxx_tokens.specs.Punctuators.{Punctuator, punctuator_at}
+use Rattle.cxx_tokens.specs.Tables.{words}
+use Rattle.cxx_tokens.specs.declared.fault.LexFault.{LexFault}
+use Rattle.cxx_tokens.specs.declared.fault.LexFault.TheVariants.{L1, L2, L3, L5}
 use Rattle.cxx_tokens.specs.declared.token.Token.{Token}
 use Rattle.cxx_tokens.specs.declared.token.TokenKind.{TokenKind}
-use Rattle.cxx_tokens.specs.declared.token.TokenKind.TheVariants.{Identifier, Word, Punctuator, Integer}
-use Rattle.cxx_tokens.specs.Tables.{words}
-
--- ---- places
-
--- the place after a character: the next line after a line feed, else the next column
-abbrev pub after : Place → ℕ → Place
-after place character =
-    if character == 10 then record { line = place.line + 1; column = 1 } else record { line = place.line; column = place.column + 1 }
-
-abbrev pub after_all : Place → Text → Place
-after_all place text = fold after place text
-
-abbrev pub start : Place
-start = record { line = 1; column = 1 }
-
--- ---- gaps and tokens
-
--- a gap is a space or a line feed ([lex.whitespace])
-abbrev pub is_gap : ℕ → Bool
-is_gap character = character == 32 || character == 10
-
--- a letter or a low line, and then also digits ([lex.name])
-abbrev pub begins_identifier : ℕ → Bool
-begins_identifier character = is_ascii_alphabetic character || character == 95
-
-abbrev pub continues_identifier : ℕ → Bool
-continues_identifier character = is_ascii_alphanumeric character || character == 95
-
-abbrev pub is_identifier : Text → Bool
-is_identifier [] = false
-is_identifier (first ∷ rest) = begins_identifier first && list_all continues_identifier rest
-
-abbrev pub is_empty : Text → Bool
-is_empty [] = true
-is_empty (first ∷ rest) = false
-
--- 0, or decimal digits of which the first is not 0 ([lex.icon])
-abbrev pub is_number : Text → Bool
-is_number [] = false
-is_number (first ∷ rest) = if first == 48 then is_empty rest else is_ascii_digit first && list_all is_ascii_digit rest
-
--- the number of the punctuator that is this one character ([lex.operators])
-abbrev pub punctuator : ℕ → Option ℕ
-punctuator character =
-    if character == 59 then Some SEMICOLON else (if character == 43 then Some PLUS else (if character == 45 then Some MINUS
-    else (if character == 42 then Some STAR else (if character == 47 then Some SLASH else (if character == 37 then Some PERCENT
-    else (if character == 61 then Some EQUAL else None))))))
-
-abbrev pub punctuator_of : Text → Option ℕ
-punctuator_of [] = None
-punctuator_of (first ∷ []) = punctuator first
-punctuator_of (first ∷ second ∷ rest) = None
-
-abbrev pub is_token : Text → Bool
-is_token text = is_identifier text || is_number text || is_some (punctuator_of text)
-
--- the length of the longest token that is a front of the text, of at most so many characters ([lex.pptoken])
-abbrev pub longest : ℕ → Text → Option ℕ
-longest zero text = None
-longest (suc n) text = if is_token (take (suc n) text) then Some (suc n) else longest n text
-
--- ---- what a token is
-
--- the place of a word in the list of those that are never identifiers
-unfoldable pub reserved : Text → Option ℕ
-reserved text = position_from (λ word. bytes_eq word text) 0 words
-
--- the number that decimal digits mean
-abbrev pub value_of : Text → ℕ
-value_of digits = fold (λ value digit. 10 * value + (digit - 48)) 0 digits
-
--- a token's kind and length, and the names with it
-pub record Found : Type 0 where
-  pub kind : TokenKind
-  pub length : ℕ
-  pub names : List Text
-
-abbrev pub found_word : List Text → Text → Option ℕ → Found
-found_word names text (Some word) = record { kind = Word word; length = length text; names = names }
-found_word names text None = record { kind = Identifier (record { 0 = number_of names text }); length = length text; names = with_text names text }
-
--- an identifier is numbered; one of more than 255 characters is refused
-abbrev pub word_token : Place → List Text → Text → Result Found LexFault
-word_token place names text = if nat_lt 255 (length text) then Err (L5 place) else Ok (found_word names text (reserved text))
-
--- no digit, letter or low line follows a number
-abbrev pub goes_on : Text → Bool
-goes_on [] = false
-goes_on (first ∷ rest) = continues_identifier first
-
--- a decimal literal is of the first of int, long and long long that holds it, so the greatest is 2^63 - 1 ([lex.icon]);
--- 0 is an octal literal
-abbrev pub number_kind : Place → Text → Text → Result TokenKind LexFault
-number_kind place text rest =
-    if goes_on rest then Err (L2 place)
-    else (if nat_lt (value_of text) (2 ^ 63) then Ok (Integer (nat_lt 0 (value_of text)) false 0 (value_of text)) else Err (L3 place))
-
-abbrev pub punctuator_kind : Place → Option ℕ → Result TokenKind LexFault
-punctuator_kind place None = Err (L2 place)
-punctuator_kind place (Some mark) = Ok (Punctuator mark)
-
-abbrev pub other_kind : Place → Text → Text → Result TokenKind LexFault
-other_kind place text rest = if is_number text then number_kind place text rest else punctuator_kind place (punctuator_of text)
+use Rattle.cxx_tokens.specs.declared.token.TokenKind.TheVariants as kind
 
 infixl 10 ◌>>=◌
 abbrev pub ◌>>=◌ : {A B : Type 0} → Result A LexFault → (A → Result B LexFault) → Result B LexFault
 (Ok x) >>= f = f x
 (Err fault) >>= f = Err fault
 
--- the token with these characters, before the rest of the text
-abbrev pub token_of : Place → List Text → Text → Text → Result Found LexFault
-token_of place names text rest =
-    if is_identifier text then word_token place names text
-    else (other_kind place text rest >>= λ kind. Ok (record { kind = kind; length = length text; names = names }))
+-- ---- tokens
 
-abbrev pub token_by : Place → List Text → Text → Option ℕ → Result Found LexFault
-token_by place names text None = Err (L2 place)
-token_by place names text (Some n) = token_of place names (take n text) (drop n text)
+-- what a token is, how many characters it has, and the names with it
+pub record Found : Type 0 where
+  pub kind : TokenKind
+  pub length : ℕ
+  pub names : List Text
 
--- the token at the front of a text: the longest one
-unfoldable pub token_at : Place → List Text → Text → Result Found LexFault
-token_at place names text = token_by place names text (longest (length text) text)
+-- ---- words ([lex.name], [lex.key])
+
+-- a beginning and all the characters that continue it
+abbrev pub word_len : Characters → ℕ
+word_len [] = 0
+word_len (c ∷ text) = 1 + prefix_len continues_identifier text
+
+-- at most 255 bytes, and in normalization form C
+abbrev pub is_short_and_composed : Characters → Bool
+is_short_and_composed word = not (nat_lt 255 (length (encode_utf8_all word))) && is_in_form Nfc word
+
+-- the place of a word in the list of those that are never identifiers
+unfoldable pub reserved : Text → Option ℕ
+reserved text = position_from (λ word. bytes_eq word text) 0 words
+
+abbrev pub word_kind : List Text → Text → Option ℕ → TokenKind
+word_kind names text (Some word) = kind.Word word
+word_kind names text None = kind.Identifier (record { 0 = number_of names text })
+
+abbrev pub names_with_word : List Text → Text → Option ℕ → List Text
+names_with_word names text (Some word) = names
+names_with_word names text None = with_text names text
+
+-- a word is one of the list, or an identifier, which is numbered
+abbrev pub word_token : Place → List Text → Characters → Result Found LexFault
+word_token place names word =
+    let text = encode_utf8_all word in
+    if is_short_and_composed word
+    then Ok (record { kind = word_kind names text (reserved text); length = length word; names = names_with_word names text (reserved text) })
+    else Err (L5 place)
+
+-- ---- literals
+
+-- an integer that some kind holds
+abbrev pub integer_kind : Bool → Bool → ℕ → ℕ → Option TokenKind
+integer_kind decimal unsigned longs value =
+    if is_some (kind_of_literal decimal unsigned longs value) then Some (kind.Integer decimal unsigned longs value) else None
+
+abbrev pub kind_or_too_large : Place → List Text → ℕ → Option TokenKind → Result Found LexFault
+kind_or_too_large place names length None = Err (L3 place)
+kind_or_too_large place names length (Some kind) = Ok (record { kind = kind; length = length; names = names })
+
+-- no digit and no other character of an identifier follows a number, and some kind holds its value
+abbrev pub integer_token : Place → List Text → Characters → Integer → Result Found LexFault
+integer_token place names text found =
+    if first_is continues_identifier (drop found.length text) then Err (L2 place)
+    else kind_or_too_large place names found.length (integer_kind found.decimal found.unsigned found.longs found.value)
+
+abbrev pub character_token : Place → List Text → Option Escape → Result Found LexFault
+character_token place names None = Err (L2 place)
+character_token place names (Some found) = Ok (record { kind = kind.Character found.byte; length = 1 + found.length; names = names })
+
+abbrev pub is_identifier : Characters → Bool
+is_identifier [] = false
+is_identifier (c ∷ text) = begins_identifier c && list_all continues_identifier text
+
+-- the bytes before the first zero byte
+abbrev pub before_zero : Text → Text
+before_zero bytes = take (prefix_len (λ byte. not (byte == 0)) bytes) bytes
+
+-- a string may name a member that is injected, so its bytes before the first zero byte are numbered where they could be a name
+abbrev pub names_with_string : List Text → Text → List Text
+names_with_string names bytes =
+    let front = before_zero bytes in
+    if is_utf8 front && is_identifier (chars front) then with_text names front else names
+
+-- the string whose first quote stands before the text
+abbrev pub string_token : Place → List Text → Characters → Result Found LexFault
+string_token place names text =
+    string_at place text >>= λ found. Ok (record { kind = kind.Text found.bytes; length = 1 + found.length; names = names_with_string names found.bytes })
+
+-- ---- punctuators
+
+abbrev pub punctuator_token : Place → List Text → Option Punctuator → Result Found LexFault
+punctuator_token place names None = Err (L2 place)
+punctuator_token place names (Some mark) = Ok (record { kind = kind.Punctuator mark.number; length = mark.length; names = names })
+
+-- the token at the front of a text: its first character tells which kind it is of, and it goes on as far as that kind does
+unfoldable pub token_at : Place → List Text → Characters → Result Found LexFault
+token_at place names [] = Err (L2 place)
+token_at place names (c ∷ text) =
+    if begins_identifier c then word_token place names (take (word_len (c ∷ text)) (c ∷ text))
+    else (if is_ascii_digit c then integer_token place names (c ∷ text) (integer_at (c ∷ text))
+    else (if c == 39 then character_token place names (character_at text)
+    else (if c == 34 then string_token place names text
+    else punctuator_token place names (punctuator_at (c ∷ text)))))
 
 -- ---- the text
 
@@ -154,16 +138,26 @@ behind tokens rest = rest >>= λ found. Ok (record found { tokens = tokens ++ fo
 abbrev pub members : List Text
 members = codes "bytes" ∷ codes "bits" ∷ []
 
--- A text is cut from its start to its end into gaps and tokens. `left` counts the characters that are left of the token
--- before, `number` the tokens so far.
-abbrev pub lex_from : ℕ → Place → ℕ → List Text → Text → Result Lexed LexFault
-lex_from left place number names [] = Ok (record { tokens = []; names = with_texts names members; end = place })
-lex_from (suc left) place number names (c ∷ text) = lex_from left (after place c) number names text
-lex_from zero place number names (c ∷ text) =
-    if is_gap c then lex_from zero (after place c) number names text
-    else (token_at place names (c ∷ text) >>= λ found.
-    behind (token_from found.kind place number ∷ []) (lex_from (found.length - 1) (after place c) (number + 1) found.names text))
+abbrev pub gap_or : {A : Type 0} → Option ℕ → (ℕ → A) → A → A
+gap_or None skip otherwise = otherwise
+gap_or (Some n) skip otherwise = skip n
 
--- the tokens of a text, over the names that are there before
+-- A text is cut from its start to its end: a gap where one begins, else a token. `left` counts the characters that are left of
+-- the gap or token before, `last` is the line of the token before, and 0 before the first; `number` counts the tokens so far.
+abbrev pub lex_from : ℕ → Place → ℕ → ℕ → List Text → Characters → Result Lexed LexFault
+lex_from left place last number names [] = Ok (record { tokens = []; names = with_texts names members; end = place })
+lex_from (suc left) place last number names (c ∷ text) = lex_from left (after place c) last number names text
+lex_from zero place last number names (c ∷ text) =
+    gap_at place (not (last == place.line)) (c ∷ text) >>= λ gap. gap_or gap
+    (λ n. lex_from (n - 1) (after place c) last number names text)
+    (token_at place names (c ∷ text) >>= λ found. behind (token_from found.kind place number ∷ [])
+    (lex_from (found.length - 1) (after place c) place.line (number + 1) found.names text))
+
+-- the tokens of the characters, over the names that are there before
+abbrev pub lex_characters : List Text → Characters → Result Lexed LexFault
+lex_characters names text = lex_from 0 start 0 0 names text
+
+-- the tokens of a source; one whose bytes are no characters is refused L1 at the first byte that begins none
 unfoldable pub lex : List Text → Text → Result Lexed LexFault
-lex names text = lex_from 0 start 0 names text
+lex names bytes =
+    if is_utf8 bytes then lex_characters names (characters_of bytes) else Err (L1 (after_all start (characters_of bytes)))

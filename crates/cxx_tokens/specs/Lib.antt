@@ -1,7 +1,11 @@
-pub mod Lex
 pub mod Characters
-pub mod Fronts
+pub mod Cuts
+pub mod Gaps
 pub mod Gives
+pub mod Lex
+pub mod Literals
+pub mod Punctuators
+pub mod Search
+pub mod Tables
 pub mod Turns
 pub mod Words
-pub mod Tables

@@ -1,186 +1,285 @@
 //! From bytes to tokens.
 
-ghost use Rattle.std.specs.Prelude.{◌≡◌, ◌+◌, ◌≤◌, ◌<◌, ◌^◌, length, drop, true, IfOk, IfErr, OnOk, Ok};
-ghost use Rattle.cxx_base.specs.Texts.{with_texts};
-ghost use Rattle.cxx_tokens.specs.Gives.{GivesKind, GivesTokens, Keeps};
+ghost use Rattle.std.specs.Prelude.{◌≡◌, ℕ, List, ◌+◌, ◌≤◌, ◌<◌, ◌^◌, min, chars, length, take, IfOk, IfErr, OnOk};
+ghost use Rattle.std.specs.Str.{IsUtf8};
+ghost use Rattle.cxx_base.specs.Texts.{Text, with_texts};
+ghost use Rattle.cxx_tokens.specs.Characters as characters;
+ghost use Rattle.cxx_tokens.specs.Cuts.{IsCut, IsCutBehindOne};
+ghost use Rattle.cxx_tokens.specs.Gives.{GivesToken, GivesTokens, Keeps};
 ghost use Rattle.cxx_tokens.specs.Lex as spec;
-ghost use Rattle.cxx_tokens.specs.Turns.{GivesToken, Goes, lexed_on};
+ghost use Rattle.cxx_tokens.specs.Literals as literals;
+ghost use Rattle.cxx_tokens.specs.Punctuators as punctuators;
+ghost use Rattle.cxx_tokens.specs.Turns.{Goes, lexed_on};
 
-use crate::character::{continues_identifier, is_gap};
-use crate::front::{Front, longest_front};
-use crate::number::value_of;
+use crate::character::{begins_identifier, continues_identifier};
+use crate::escape::character_at;
+use crate::fault::LexFault;
+use crate::gap::gap_at;
+use crate::integer::{Integer, integer_at};
+use crate::punctuator::punctuator_at;
+use crate::quoted::string_at;
+use crate::run::{Class, past, run};
+use crate::text::{Cut, after, end_of, front, split_first, without_byte_order_mark};
 use crate::token::{Token, TokenKind, Tokens};
 use crate::word::reserved;
-use cxx_base::{MAX_IDENTIFIER, Memory, Name, Names, Place, Span};
+use cxx_base::{MAX_IDENTIFIER, Names, Place, Span};
+use int_kinds::literal_kind;
 use sqlite_items::Items;
-use std::alloc::Global;
+use std::alloc::{AllocError, Global};
+use unicode_normalization::is_nfc;
 
-/// Why a text has no list of tokens.
-#[derive(Clone, Copy, Debug, PartialEq, Eq)]
-pub enum LexFault {
-    /// No token begins here.
-    L2(Place),
-    /// An integer literal is too large.
-    L3(Place),
-    /// An identifier is too long.
-    L5(Place),
-    Memory,
-}
-
-impl From<Memory> for LexFault {
-    ghost use Rattle.cxx_tokens.specs.declared.lexing.LexFault.TheVariants.{Memory};
-
-    ghost from_gives = { λ _ e. e ≡ Memory };
-
-    fn from(_refused: Memory) -> LexFault {
-        LexFault::Memory
-    }
-}
-
-/// A token without its place.
-#[derive(Clone, Copy, Debug)]
-struct FoundToken {
+/// A token without its place, and what follows it.
+#[derive(Debug, Drop)]
+struct FoundToken<'a> {
     kind: TokenKind,
-    length: usize,
+    cut: Cut<'a>,
 }
 
-// The place after some characters. A line feed begins a line.
-fn after(place: Place, text: &[u8]) -> Place
-    requires line { place.line + length text.now < 2 ^ 32 }
-    requires column { place.column + length text.now < 2 ^ 32 }
-    ensures place { result ≡ spec.after_all place text.now }
-    ensures line { result.line ≤ place.line + length text.now }
-    ensures column { result.column ≤ place.column + length text.now }
-{
-    let mut next = place;
-    for character in text {
-        next = if *character == b'\n' {
-            Place {
-                line: next.line + 1,
-                column: 1,
-            }
-        } else {
-            Place {
-                line: next.line,
-                column: next.column + 1,
-            }
-        };
-    }
-    next
+/// Where the lexer is, and the line of the token before, which is 0 where there is none.
+#[derive(Clone, Copy, Debug)]
+struct Position {
+    place: Place,
+    last: u32,
 }
 
-fn word_at(names: &mut Names, place: Place, word: &[u8]) -> Result<FoundToken, LexFault>
-    requires spelled { spec.is_identifier word.now ≡ true }
+// A word of the list, or an identifier, which is numbered.
+fn kind_of_word(names: &mut Names, text: &str) -> Result<TokenKind, LexFault>
     requires room { length names.old < 2 ^ 24 }
-    ensures found { GivesToken result names.new (spec.word_token place names.old word.now) }
+    ensures kind { IfOk result (λ kind. kind ≡ spec.word_kind names.old text.now (spec.reserved text.now)) }
+    ensures names { OnOk result (names.new ≡ spec.names_with_word names.old text.now (spec.reserved text.now)) }
     ensures few { length names.new ≤ length names.old + 1 }
     ensures kept { Keeps names.old names.new }
-    ensures length { IfOk result (λ found. found.length ≡ length word.now) }
+    ensures memory { IfErr result (λ fault. fault ≡ LexFault.Memory) }
 {
-    let length = word.len();
-    if length > MAX_IDENTIFIER {
+    match reserved(text.as_bytes()) {
+        Some(number) => Ok(TokenKind::Word(number)),
+        None => Ok(TokenKind::Identifier(names.number(text)?)),
+    }
+}
+
+// The first character, and all behind it that continue an identifier.
+fn word(text: &str) -> Cut<'_>
+    ensures length { result.length ≡ spec.word_len (chars text.now) }
+    ensures cut { IsCut text.now result }
+{
+    match split_first(text) {
+        Some((_, rest)) => {
+            let more = run(Class::Continuing, rest);
+            Cut {
+                length: 1 + more.length,
+                rest: more.rest,
+            }
+        }
+        None => Cut {
+            length: 0,
+            rest: text,
+        },
+    }
+}
+
+// Whether a word is short enough, and in normalization form C.
+fn is_short_and_composed(alloc: Global, word: &str) -> Result<bool, AllocError>
+    ensures { IfOk result (λ fit. fit ≡ spec.is_short_and_composed (chars word.now)) }
+{
+    if word.len() > MAX_IDENTIFIER {
+        return Ok(false);
+    }
+    is_nfc(alloc, word)
+}
+
+// The word at the front of a text.
+fn word_at<'a>(
+    alloc: Global,
+    names: &mut Names,
+    place: Place,
+    text: &'a str,
+) -> Result<FoundToken<'a>, LexFault>
+    requires room { length names.old < 2 ^ 24 }
+    ensures found { GivesToken result names.new (spec.word_token place names.old (take (spec.word_len (chars text.now)) (chars text.now))) }
+    ensures few { length names.new ≤ length names.old + 1 }
+    ensures kept { Keeps names.old names.new }
+    ensures cut { IfOk result (λ found. IsCut text.now found.cut) }
+{
+    let cut = word(text);
+    let spelled = front(text, cut.length, cut.rest);
+    if !is_short_and_composed(alloc, spelled)? {
         return Err(LexFault::L5(place));
     }
-    if let Some(number) = reserved(word) {
-        return Ok(FoundToken {
-            kind: TokenKind::Word(number),
-            length,
-        });
+    match kind_of_word(names, spelled) {
+        Ok(kind) => Ok(FoundToken { kind, cut }),
+        Err(fault) => Err(fault),
     }
-    let name = names.number(text_of(word))?;
-    Ok(FoundToken {
-        kind: TokenKind::Identifier(name),
-        length,
+}
+
+// The kind of an integer literal, if some kind holds its value.
+fn integer_kind(found: &Integer<'_>) -> Option<TokenKind>
+    requires { found.now.longs ≤ 2 }
+    ensures { (value : ℕ) → found.now.value ≡ min value (2 ^ 64) → result ≡ spec.integer_kind found.now.decimal found.now.unsigned found.now.longs value }
+{
+    if found.value >= 1 << 64 {
+        return None;
+    }
+    let n = found.value as u64;
+    literal_kind(found.decimal, found.unsigned, found.longs, n)?;
+    Some(TokenKind::Integer {
+        decimal: found.decimal,
+        unsigned: found.unsigned,
+        longs: found.longs,
+        n,
     })
 }
 
-// An identifier is ASCII, so it is text.
-fn text_of(word: &[u8]) -> &str
-    requires { spec.is_identifier word.now ≡ true }
-    ensures { result.now ≡ word.now }
+// The integer literal at the front of a text that begins with a digit.
+fn integer_token_at(place: Place, text: &str) -> Result<FoundToken<'_>, LexFault>
+    ensures found { (names : List Text) → GivesToken result names (spec.integer_token place names (chars text.now) (literals.integer_at (chars text.now))) }
+    ensures cut { IfOk result (λ found. IsCut text.now found.cut) }
+    ensures length { IfOk result (λ found. found.cut.length ≡ (literals.integer_at (chars text.now)).length) }
 {
-    str::from_utf8(word).unwrap()
-}
-
-fn number_at(place: Place, digits: &[u8], rest: &[u8]) -> Result<TokenKind, LexFault>
-    ensures { GivesKind result (spec.number_kind place digits.now rest.now) }
-{
-    if let Some(next) = rest.first() {
-        if continues_identifier(*next) {
+    let found = integer_at(text);
+    if let Some((next, _)) = split_first(found.cut.rest) {
+        if continues_identifier(next) {
             return Err(LexFault::L2(place));
         }
     }
-    let n = value_of(digits);
-    if n < 1 << 63 {
-        Ok(TokenKind::Integer {
-            decimal: n > 0,
-            unsigned: false,
-            longs: 0,
-            n,
-        })
-    } else {
-        Err(LexFault::L3(place))
+    match integer_kind(&found) {
+        Some(kind) => Ok(FoundToken {
+            kind,
+            cut: found.cut,
+        }),
+        None => Err(LexFault::L3(place)),
+    }
+}
+
+// The character literal whose first quote stands before a text.
+fn character_token_at(place: Place, text: &str) -> Result<FoundToken<'_>, LexFault>
+    ensures found { (names : List Text) → GivesToken result names (spec.character_token place names (literals.character_at (chars text.now))) }
+    ensures cut { IfOk result (λ found. IsCutBehindOne text.now found.cut) }
+{
+    match character_at(text) {
+        Some(found) => Ok(FoundToken {
+            kind: TokenKind::Character(found.byte),
+            cut: behind_one(found.cut),
+        }),
+        None => Err(LexFault::L2(place)),
+    }
+}
+
+// The same cut, counted from one character before.
+fn behind_one(cut: Cut<'_>) -> Cut<'_>
+    requires { cut.length < 2 ^ 63 }
+    ensures length { result.length ≡ 1 + cut.entry.length }
+    ensures rest { result.rest ≡ cut.entry.rest }
+{
+    Cut {
+        length: 1 + cut.length,
+        rest: cut.rest,
+    }
+}
+
+// Numbers the bytes of a string before its first zero byte, where they could be a name.
+fn number_string(names: &mut Names, bytes: &[u8]) -> Result<(), LexFault>
+    requires room { length names.old < 2 ^ 24 }
+    ensures names { OnOk result (names.new ≡ spec.names_with_string names.old bytes.now) }
+    ensures few { length names.new ≤ length names.old + 1 }
+    ensures kept { Keeps names.old names.new }
+    ensures memory { IfErr result (λ fault. fault ≡ LexFault.Memory) }
+{
+    let Ok(text) = str::from_utf8(before_zero(bytes)) else {
+        return Ok(());
+    };
+    if !is_identifier(text) {
+        return Ok(());
+    }
+    names.number(text)?;
+    Ok(())
+}
+
+fn before_zero(bytes: &[u8]) -> &[u8]
+    ensures { result.now ≡ spec.before_zero bytes.now }
+{
+    let mut end = 0;
+    while end < bytes.len() && bytes[end] != 0 {
+        end += 1;
+    }
+    &bytes[..end]
+}
+
+// Whether a text is a beginning of identifiers and what continues them.
+fn is_identifier(text: &str) -> bool
+    ensures { result ≡ spec.is_identifier (chars text.now) }
+{
+    match split_first(text) {
+        Some((c, rest)) => begins_identifier(c) && past(Class::Continuing, rest).is_empty(),
+        None => false,
+    }
+}
+
+// The string literal whose first quote stands before a text.
+fn string_token_at<'a>(
+    alloc: Global,
+    names: &mut Names,
+    place: Place,
+    text: &'a str,
+) -> Result<FoundToken<'a>, LexFault>
+    requires room { length names.old < 2 ^ 24 }
+    ensures found { GivesToken result names.new (spec.string_token place names.old (chars text.now)) }
+    ensures few { length names.new ≤ length names.old + 1 }
+    ensures kept { Keeps names.old names.new }
+    ensures cut { IfOk result (λ found. IsCutBehindOne text.now found.cut) }
+{
+    match string_at(alloc, place, text) {
+        Ok(found) => match number_string(names, found.bytes.as_slice()) {
+            Ok(()) => Ok(FoundToken {
+                kind: TokenKind::Text(found.bytes),
+                cut: behind_one(found.cut),
+            }),
+            Err(fault) => Err(fault),
+        },
+        Err(fault) => Err(fault),
+    }
+}
+
+// The punctuator at the front of a text.
+fn punctuator_token_at(place: Place, text: &str) -> Result<FoundToken<'_>, LexFault>
+    ensures found { (names : List Text) → GivesToken result names (spec.punctuator_token place names (punctuators.punctuator_at (chars text.now))) }
+    ensures cut { IfOk result (λ found. (0 < found.cut.length) × IsCut text.now found.cut) }
+{
+    match punctuator_at(text) {
+        Some(found) => Ok(FoundToken {
+            kind: TokenKind::Punctuator(found.number),
+            cut: found.cut,
+        }),
+        None => Err(LexFault::L2(place)),
     }
 }
 
 // The token at the front of a text.
-fn token_at(names: &mut Names, place: Place, text: &[u8]) -> Result<FoundToken, LexFault>
-    requires some { 0 < length text.now }
-    requires room { length names.old < 2 ^ 24 }
-    ensures found { GivesToken result names.new (spec.token_at place names.old text.now) }
-    ensures few { length names.new ≤ length names.old + 1 }
-    ensures kept { Keeps names.old names.new }
-    ensures within { IfOk result (λ found. (0 < found.length) × (found.length ≤ length text.now)) }
-{
-    match longest_front(text) {
-        Front::Word(length) => word_at(names, place, &text[..length]),
-        Front::Number(length) => {
-            let (digits, rest) = text.split_at(length);
-            match number_at(place, digits, rest) {
-                Ok(kind) => Ok(FoundToken { kind, length }),
-                Err(fault) => Err(fault),
-            }
-        }
-        Front::Punctuator(mark) => Ok(FoundToken {
-            kind: TokenKind::Punctuator(mark),
-            length: 1,
-        }),
-        Front::Nothing => Err(LexFault::L2(place)),
-    }
-}
-
-// Passes the gap or the token at the front of a text, and answers how many characters it has.
-fn turn(
+fn token_at<'a>(
+    alloc: Global,
     names: &mut Names,
-    list: &mut Items<Token>,
-    place: &mut Place,
-    text: &[u8],
-) -> Result<usize, LexFault>
-    requires some { 0 < length text.now }
+    place: Place,
+    text: &'a str,
+) -> Result<FoundToken<'a>, LexFault>
     requires room { length names.old < 2 ^ 24 }
-    requires short { length list.old < 2 ^ 31 }
-    requires line { place.old.line + length text.now < 2 ^ 32 }
-    requires column { place.old.column + length text.now < 2 ^ 32 }
-    ensures goes { Goes result (lexed_on list.old place.old names.old text.now)
-        (λ taken. lexed_on list.new place.new names.new (drop taken text.now)) }
-    ensures taken { IfOk result (λ taken. (0 < taken) × (taken ≤ length text.now)) }
-    ensures kept { Keeps names.old names.new }
+    ensures found { GivesToken result names.new (spec.token_at place names.old (chars text.now)) }
     ensures few { length names.new ≤ length names.old + 1 }
-    ensures longer { length list.new ≤ length list.old + 1 }
-    ensures line { IfOk result (λ taken. place.new.line ≤ place.old.line + taken) }
-    ensures column { IfOk result (λ taken. place.new.column ≤ place.old.column + taken) }
+    ensures kept { Keeps names.old names.new }
+    ensures cut { IfOk result (λ found. (0 < found.cut.length) × IsCut text.now found.cut) }
 {
-    if is_gap(text[0]) {
-        *place = after(*place, &text[..1]);
-        return Ok(1);
-    }
-    let found = token_at(names, *place, text)?;
-    let token = token_from(found.kind, *place, list.len() as u32);
-    match list.push(token) {
-        Err(_) => Err(LexFault::Memory),
-        Ok(()) => {
-            *place = after(*place, &text[..found.length]);
-            Ok(found.length)
+    match split_first(text) {
+        None => Err(LexFault::L2(place)),
+        Some((c, rest)) => {
+            if begins_identifier(c) {
+                word_at(alloc, names, place, text)
+            } else if c.is_ascii_digit() {
+                integer_token_at(place, text)
+            } else if c == '\'' {
+                character_token_at(place, rest)
+            } else if c == '"' {
+                string_token_at(alloc, names, place, rest)
+            } else {
+                punctuator_token_at(place, text)
+            }
         }
     }
 }
@@ -197,6 +296,47 @@ fn token_from(kind: TokenKind, place: Place, number: u32) -> Token
     Token { kind, span }
 }
 
+// Passes the gap or the token at the front of a text, and answers what follows it.
+fn turn<'a>(
+    alloc: Global,
+    names: &mut Names,
+    list: &mut Items<Token>,
+    at: &mut Position,
+    text: &'a str,
+) -> Result<&'a str, LexFault>
+    requires some { 0 < length text.now }
+    requires room { length names.old < 2 ^ 24 }
+    requires short { length list.old < 2 ^ 31 }
+    requires line { at.old.place.line + length (chars text.now) < 2 ^ 32 }
+    requires column { at.old.place.column + length (chars text.now) < 2 ^ 32 }
+    ensures goes { Goes result (lexed_on list.old at.old names.old (chars text.now)) (lexed_on list.new at.new names.new) }
+    ensures taken { IfOk result (λ rest. length (chars rest.now) < length (chars text.now)) }
+    ensures kept { Keeps names.old names.new }
+    ensures few { length names.new ≤ length names.old + 1 }
+    ensures longer { length list.new ≤ length list.old + 1 }
+    ensures line { IfOk result (λ rest. at.new.place.line + length (chars rest.now) ≤ at.old.place.line + length (chars text.now)) }
+    ensures column { IfOk result (λ rest. at.new.place.column + length (chars rest.now) ≤ at.old.place.column + length (chars text.now)) }
+{
+    match gap_at(at.place, at.last != at.place.line, text) {
+        Err(fault) => Err(fault),
+        Ok(Some(gap)) => {
+            at.place = after(at.place, text, gap.length);
+            Ok(gap.rest)
+        }
+        Ok(None) => match token_at(alloc, names, at.place, text) {
+            Err(fault) => Err(fault),
+            Ok(found) => {
+                list.push(token_from(found.kind, at.place, list.len() as u32))?;
+                *at = Position {
+                    place: after(at.place, text, found.cut.length),
+                    last: at.place.line,
+                };
+                Ok(found.cut.rest)
+            }
+        },
+    }
+}
+
 // An injected class may need these names, and no source has to write them.
 fn number_members(names: &mut Names) -> Result<(), LexFault>
     requires { length names.old + 2 ≤ 2 ^ 24 }
@@ -209,8 +349,50 @@ fn number_members(names: &mut Names) -> Result<(), LexFault>
     Ok(())
 }
 
-/// The tokens of a text, each identifier numbered in `names`, and then `bytes` and `bits`. A refusal is the first from the left; `names` may then
-/// hold more texts than before.
+// The tokens of a text without a byte order mark.
+fn tokens_of(alloc: Global, names: &mut Names, text: &str) -> Result<Tokens, LexFault>
+    requires short { length (chars text.now) ≤ 4194304 }
+    requires room { length names.old < 2 ^ 23 }
+    ensures tokens { GivesTokens result names.new (spec.lex_characters names.old (chars text.now)) }
+    ensures few { IfOk result (λ found. length found.list ≤ length (chars text.now)) }
+    ensures kept { Keeps names.old names.new }
+{
+    let mut list = Items::new(alloc);
+    let mut at = Position {
+        place: Place::START,
+        last: 0,
+    };
+    let mut rest = text;
+    while !rest.is_empty() {
+        match turn(alloc, names, &mut list, &mut at, rest) {
+            Ok(behind) => rest = behind,
+            Err(fault) => return Err(fault),
+        }
+    }
+    number_members(names)?;
+    Ok(Tokens {
+        list,
+        end: at.place,
+    })
+}
+
+// The place of the first byte that begins no character, which stands behind so many bytes.
+fn fault_place(bytes: &[u8], valid: usize) -> Place
+    requires short { length bytes.now ≤ 4194304 }
+    requires within { valid ≤ length bytes.now }
+    requires utf8 { IsUtf8 (take valid bytes.now) }
+    ensures { result ≡ characters.after_all characters.start (characters.without_byte_order_mark (chars (take valid bytes.now))) }
+{
+    match str::from_utf8(&bytes[..valid]) {
+        Ok(text) => end_of(without_byte_order_mark(text)),
+        Err(_) => unreachable!(),
+    }
+}
+
+/// The tokens of a source text ([lex]), each identifier numbered in `names`, of each string the bytes before its first zero
+/// byte where they could be a name, and then `bytes` and `bits`. A source that is not UTF-8 is refused `L1` at the first byte
+/// that begins no character; another one at the first place where no gap and no token can be read. After a refusal `names`
+/// may hold more texts than before.
 pub fn tokens(alloc: Global, names: &mut Names, bytes: &[u8]) -> Result<Tokens, LexFault>
     requires short { length bytes.now ≤ 4194304 }
     requires room { length names.old < 2 ^ 23 }
@@ -218,12 +400,8 @@ pub fn tokens(alloc: Global, names: &mut Names, bytes: &[u8]) -> Result<Tokens, 
     ensures few { IfOk result (λ found. length found.list ≤ length bytes.now) }
     ensures kept { Keeps names.old names.new }
 {
-    let mut list = Items::new(alloc);
-    let mut place = Place::START;
-    let mut at = 0;
-    while at < bytes.len() {
-        at += turn(names, &mut list, &mut place, &bytes[at..])?;
+    match str::from_utf8(bytes) {
+        Ok(text) => tokens_of(alloc, names, without_byte_order_mark(text)),
+        Err(fault) => Err(LexFault::L1(fault_place(bytes, fault.valid_up_to()))),
     }
-    number_members(names)?;
-    Ok(Tokens { list, end: place })
 }

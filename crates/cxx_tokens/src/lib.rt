@@ -2,16 +2,23 @@
 #![tactic(auto)]
 
 mod character;
-mod front;
+mod escape;
+mod fault;
+mod gap;
+mod integer;
 mod laws;
 mod lexing;
-mod number;
 mod punctuator;
+mod quoted;
+mod run;
+mod text;
 mod token;
+mod value;
 mod word;
 
+pub use fault::LexFault;
 pub use laws::numbers_are_places;
-pub use lexing::{LexFault, tokens};
+pub use lexing::tokens;
 pub use punctuator::{EQUAL, MINUS, PERCENT, PLUS, SEMICOLON, SLASH, STAR};
 pub use token::{Token, TokenKind, Tokens};
 pub use word::{CONSTEXPR, INT};

@@ -1,107 +1,163 @@
 //! Texts with their tokens, and texts with their faults.
-use crate::{
-    CONSTEXPR, EQUAL, INT, LexFault, MINUS, PERCENT, PLUS, SEMICOLON, SLASH, STAR, TokenKind,
-    tokens,
-};
+use crate::punctuator::PUNCTUATORS;
+use crate::{LexFault, TokenKind, numbers_are_places, tokens};
 use cxx_base::{Name, Names, Place, Span};
+use std::alloc::{AllocError, Global};
 use std::test::Fail;
 
-const fn number(n: u64) -> TokenKind {
-    TokenKind::Integer {
-        decimal: true,
-        unsigned: false,
-        longs: 0,
-        n,
+// A token in words: of integers the base, `u`, how many `l`, and the value.
+fn shown(alloc: Global, names: &Names, kind: &TokenKind) -> Result<String, AllocError> {
+    match kind {
+        TokenKind::Identifier(name) if name.0 < names.len() => {
+            String::from_str(alloc, names.text(*name))
+        }
+        TokenKind::Identifier(_) => String::from_str(alloc, "no name"),
+        TokenKind::Word(number) => format!(in alloc; "word {number}"),
+        TokenKind::Punctuator(number) => {
+            let text = match PUNCTUATORS.get(*number as usize) {
+                Some(text) => *text,
+                None => b"none",
+            };
+            String::from_str(alloc, str::from_utf8(text).unwrap_or("none"))
+        }
+        TokenKind::Integer {
+            decimal,
+            unsigned,
+            longs,
+            n,
+        } => format!(in alloc; "{decimal} {unsigned} {longs} {n}"),
+        TokenKind::Character(byte) => format!(in alloc; "'{byte}"),
+        TokenKind::Text(bytes) => format!(in alloc; "{:?}", bytes.as_slice()),
     }
 }
 
 #[test]
 fn reads_kinds(rt: HostRuntime) -> Result<(), Fail> {
-    use TokenKind::{Identifier, Punctuator, Word};
-
-    let long = [b'a'; 255];
-    // the library has 69 names, so the first new identifier is number 69; the column of the end is one past the length
-    let table: [(&[u8], &[TokenKind], u32); 9] = [
-        (b"", &[], 1),
-        (b"   ", &[], 4),
-        (
-            b"constexpr int a = 2 + 3 * 4;",
-            &[
-                Word(CONSTEXPR),
-                Word(INT),
-                Identifier(Name(69)),
-                Punctuator(EQUAL),
-                number(2),
-                Punctuator(PLUS),
-                number(3),
-                Punctuator(STAR),
-                number(4),
-                Punctuator(SEMICOLON),
-            ],
-            29,
-        ),
-        (
-            b"a-b/a%vector",
-            &[
-                Identifier(Name(69)),
-                Punctuator(MINUS),
-                Identifier(Name(70)),
-                Punctuator(SLASH),
-                Identifier(Name(69)),
-                Punctuator(PERCENT),
-                Identifier(Name(2)),
-            ],
-            13,
-        ),
-        // words that only begin or end as a keyword does, or differ in a letter's case
-        (
-            b"_a1 int2 constexprint Int _int",
-            &[
-                Identifier(Name(69)),
-                Identifier(Name(70)),
-                Identifier(Name(71)),
-                Identifier(Name(72)),
-                Identifier(Name(73)),
-            ],
-            31,
-        ),
+    numbers_are_places();
+    let table: [(&str, &[&str]); 24] = [
+        ("", &[]),
+        ("\u{feff}", &[]),
         // the first and the last of 82 keywords, and the last of 11 alternative spellings
-        (b"alignas while xor_eq", &[Word(0), Word(81), Word(92)], 21),
-        // 0 is octal, and the greatest value of `long long` is 2^63 - 1
+        ("alignas while xor_eq", &["word 0", "word 81", "word 92"]),
         (
-            b"0 9223372036854775807",
+            "_a1 int2 Int _int größe x\u{304} std",
+            &["_a1", "int2", "Int", "_int", "größe", "x\u{304}", "std"],
+        ),
+        // the bases, and the separators between digits
+        (
+            "0 017 0'7 00",
             &[
-                TokenKind::Integer {
-                    decimal: false,
-                    unsigned: false,
-                    longs: 0,
-                    n: 0,
-                },
-                number(9_223_372_036_854_775_807),
+                "false false 0 0",
+                "false false 0 15",
+                "false false 0 7",
+                "false false 0 0",
             ],
-            22,
         ),
         (
-            b"==++",
+            "10 1'0'0 9223372036854775807",
             &[
-                Punctuator(EQUAL),
-                Punctuator(EQUAL),
-                Punctuator(PLUS),
-                Punctuator(PLUS),
+                "true false 0 10",
+                "true false 0 100",
+                "true false 0 9223372036854775807",
             ],
-            5,
         ),
-        (&long, &[Identifier(Name(69))], 256),
+        (
+            "0x1F 0xf'F 0b101 0b1'1",
+            &[
+                "false false 0 31",
+                "false false 0 255",
+                "false false 0 5",
+                "false false 0 3",
+            ],
+        ),
+        // 2^64 - 1 has a kind where it may be unsigned
+        (
+            "0xFFFFFFFFFFFFFFFF 18446744073709551615u",
+            &[
+                "false false 0 18446744073709551615",
+                "true true 0 18446744073709551615",
+            ],
+        ),
+        (
+            "1u 1U 1l 1L 1ll 1LL",
+            &[
+                "true true 0 1",
+                "true true 0 1",
+                "true false 1 1",
+                "true false 1 1",
+                "true false 2 1",
+                "true false 2 1",
+            ],
+        ),
+        (
+            "1ul 1lu 1uLL 1LLU",
+            &[
+                "true true 1 1",
+                "true true 1 1",
+                "true true 2 1",
+                "true true 2 1",
+            ],
+        ),
+        (
+            "'a' '\"' '\t' '\\'' '\\\\' '\\n' '\\?'",
+            &["'97", "'34", "'9", "'39", "'92", "'10", "'63"],
+        ),
+        // one to three octal digits, and all hexadecimal ones
+        (
+            "'\\0' '\\101' '\\377' '\\x41' '\\x0ff'",
+            &["'0", "'65", "'255", "'65", "'255"],
+        ),
+        // the zero byte at the end is not of the token; a fourth digit is of no octal escape
+        (
+            "\"\" \"ab\" \"a\\tb\" \"\\1234\"",
+            &["[]", "[97, 98]", "[97, 9, 98]", "[83, 52]"],
+        ),
+        // ö is two bytes, as an escape is one
+        (
+            "\"ö\" \"\\xf6\" \"'\" \"//\"",
+            &["[195, 182]", "[246]", "[39]", "[47, 47]"],
+        ),
+        // the longest punctuator
+        (
+            "<<= << <= < >>= ->-- -= ^^= :: :]",
+            &[
+                "<<=", "<<", "<=", "<", ">>=", "->", "--", "-=", "^^", "=", "::", ":]",
+            ],
+        ),
+        (
+            "{}[]();:,.?+*/%^&|~!=",
+            &[
+                "{", "}", "[", "]", "(", ")", ";", ":", ",", ".", "?", "+", "*", "/", "%", "^",
+                "&", "|", "~", "!=",
+            ],
+        ),
+        // `[::` is `[` and `::`, unless a colon follows
+        ("[::", &["[", "::"]),
+        ("[:::", &["[:", "::"]),
+        ("[::a [: a", &["[", "::", "a", "[:", "a"]),
+        // gaps
+        ("a \t\u{b}\u{c}\r\n b", &["a", "b"]),
+        (
+            "a/**/b/*/ * **/c//d\ne/ *f",
+            &["a", "b", "c", "e", "/", "*", "f"],
+        ),
+        (
+            "# 1 \"a.cpp\" 2 3\r\n #include <meta>\n/* x */ # 7 \"\" \na",
+            &["a"],
+        ),
+        // the comment began on the line of a token, and the mark is the first token of its own
+        ("a /*\n*/ #1\"b\"3\nc", &["a", "c"]),
+        ("1'a'", &["true false 0 1", "'97"]),
     ];
-    for (text, kinds, column) in table {
+    for (text, kinds) in table {
         let mut names = Names::new(rt.alloc())?;
         assert!(rt; names.len() == 69 && text.len() < 300);
-        let found = tokens(rt.alloc(), &mut names, text)?;
+        let found = tokens(rt.alloc(), &mut names, text.as_bytes())?;
         assert_eq!(rt; found.list.len(), kinds.len(), "the tokens of {text:?}");
         for (token, kind) in found.list.as_slice().iter().zip(kinds) {
-            assert_eq!(rt; token.kind, *kind, "in {text:?}");
+            let seen = shown(rt.alloc(), &names, &token.kind)?;
+            assert_eq!(rt; seen.as_str(), *kind, "in {text:?}");
         }
-        assert_eq!(rt; found.end, Place { line: 1, column }, "the end of {text:?}");
     }
     Ok(())
 }
@@ -110,15 +166,18 @@ fn reads_kinds(rt: HostRuntime) -> Result<(), Fail> {
 fn finds_places(rt: HostRuntime) -> Result<(), Fail> {
     let mut names = Names::new(rt.alloc())?;
     assert!(rt; names.len() == 69);
-    let found = tokens(rt.alloc(), &mut names, b"int ab\n = 10;\n\n  c\n")?;
-    // `int`, `ab`; `=`, `10`, `;`; `c` on the fourth line
+    // a byte order mark counts in no place, and a character of three bytes is one column
+    let text = "\u{feff}int ab\n = \"€\" c; // €\n\n  \"d\\0e\" \"1\"\n";
+    let found = tokens(rt.alloc(), &mut names, text.as_bytes())?;
     let spans = [
         (1, 1, 0, 1),
         (1, 5, 1, 2),
         (2, 2, 2, 3),
         (2, 4, 3, 4),
-        (2, 6, 4, 5),
-        (4, 3, 5, 6),
+        (2, 8, 4, 5),
+        (2, 9, 5, 6),
+        (4, 3, 6, 7),
+        (4, 10, 7, 8),
     ];
     assert_eq!(rt; found.list.len(), spans.len());
     for (token, (line, column, first, end)) in found.list.as_slice().iter().zip(spans) {
@@ -126,11 +185,12 @@ fn finds_places(rt: HostRuntime) -> Result<(), Fail> {
         assert_eq!(rt; token.span, Span { place, first, end });
     }
     assert_eq!(rt; found.end, Place { line: 5, column: 1 });
-    // the two new identifiers, and then the members of `std::meta::member_offset`
-    assert_eq!(rt; names.len(), 73);
+    // the new identifiers, the string that could be a name up to its zero byte, and the members of `std::meta::member_offset`
+    assert_eq!(rt; names.len(), 74);
     assert_eq!(rt; (names.text(Name(69)), names.text(Name(70))), ("ab", "c"));
+    assert_eq!(rt; names.text(Name(71)), "d");
     assert_eq!(rt;
-        (names.text(Name(71)), names.text(Name(72))),
+        (names.text(Name(72)), names.text(Name(73))),
         ("bytes", "bits")
     );
     Ok(())
@@ -138,34 +198,46 @@ fn finds_places(rt: HostRuntime) -> Result<(), Fail> {
 
 #[test]
 fn finds_the_first_fault(rt: HostRuntime) -> Result<(), Fail> {
-    use LexFault::{L2, L3, L5};
+    use LexFault::{L1, L2, L3, L4, L5};
 
     let long = [b'a'; 256];
-    let table: [(&[u8], LexFault); 20] = [
+    let table: [(&[u8], LexFault); 30] = [
+        // before all others, behind the last whole character; a byte order mark counts in no place
+        (b"(\n@\xc3\xa9\x80", L1(at(2, 3))),
+        (b"\xef\xbb\xbfa\xff", L1(at(1, 2))),
+        (b"\xef\xbb", L1(at(1, 1))),
         // 2^63, and 10^20 - 1, which is more than 64 bits hold
         (b"9223372036854775808", L3(at(1, 1))),
         (b"a = 99999999999999999999;", L3(at(1, 5))),
-        // the longest number at the front is cut before a digit after 0 and before a letter: the fault is where it begins
-        (b"00", L2(at(1, 1))),
-        (b"a 0x1", L2(at(1, 3))),
+        (b"0x10000000000000000", L3(at(1, 1))),
+        // the number ends before a digit that is none of its base and before a letter: the fault is where it begins
+        (b"09", L2(at(1, 1))),
+        (b"a 0x", L2(at(1, 3))),
+        (b"0b2", L2(at(1, 1))),
+        (b"0X1", L2(at(1, 1))),
         (b"\n12ab", L2(at(2, 1))),
-        (b"12_", L2(at(1, 1))),
-        (b"1u", L2(at(1, 1))),
-        // what begins no token, as each character beyond ASCII
-        (b"a #", L2(at(1, 3))),
-        (b"(", L2(at(1, 1))),
-        (b"a\tb", L2(at(1, 2))),
-        (b"\r\n", L2(at(1, 1))),
-        (b"\0", L2(at(1, 1))),
-        (b"a\n  \x80", L2(at(2, 3))),
-        (b"caf\xc3\xa9", L2(at(1, 4))),
-        (b"1\xff", L2(at(1, 2))),
-        // the first from the left
-        (b"a ( 9223372036854775808", L2(at(1, 3))),
-        (b"9223372036854775808 (", L3(at(1, 1))),
-        (b"9223372036854775808a", L2(at(1, 1))),
-        (b"1 2\n3 #\n00", L2(at(2, 3))),
+        (b"1lL", L2(at(1, 1))),
+        (b"1\xc3\xa9", L2(at(1, 1))),
+        (b"99999999999999999999x", L2(at(1, 1))),
+        (b"1''0", L2(at(1, 2))),
+        // what begins no token
+        (b"a @", L2(at(1, 3))),
+        (b"\xc3\xa9 \xe2\x82\xac", L2(at(1, 3))),
+        (b"\xef\xbb\xbf\xef\xbb\xbf", L2(at(1, 1))),
+        (b"'ab'", L2(at(1, 1))),
+        (b"'\xc3\xa9'", L2(at(1, 1))),
+        (b"'\\400'", L2(at(1, 1))),
+        (b"\"\\q", L2(at(1, 1))),
+        (b"a #1 \"b\"", L2(at(1, 3))),
+        (b"#include <vector>", L2(at(1, 1))),
+        (b"# 1 \"a\" // b", L2(at(1, 1))),
+        // what does not end
+        (b"a \"b\nc\"", L4(at(1, 3))),
+        (b"\"b\\", L4(at(1, 1))),
+        (b"a/*/", L4(at(1, 2))),
+        // an identifier of 256 bytes, and one that is not in form C
         (&long, L5(at(1, 1))),
+        (b"int gro\xcc\x88\xc3\x9fe", L5(at(1, 5))),
     ];
     for (text, want) in table {
         let mut names = Names::new(rt.alloc())?;
@@ -176,6 +248,11 @@ fn finds_the_first_fault(rt: HostRuntime) -> Result<(), Fail> {
             "at {text:?}"
         );
     }
+    // 255 bytes are not too many
+    let mut names = Names::new(rt.alloc())?;
+    assert!(rt; names.len() == 69);
+    let found = tokens(rt.alloc(), &mut names, &long[1..])?;
+    assert_eq!(rt; found.list.len(), 1);
     Ok(())
 }
 

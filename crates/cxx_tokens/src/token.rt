@@ -1,10 +1,10 @@
 //! Tokens.
 
-use cxx_base::{Name, Place, Span};
+use cxx_base::{Bytes, Name, Place, Span};
 use sqlite_items::Items;
 
-/// What a token is.
-#[derive(Clone, Copy, Debug, PartialEq, Eq)]
+/// What a token is ([lex.token]).
+#[derive(Debug, Drop)]
 pub enum TokenKind {
     /// An identifier, by the number of its text.
     Identifier(Name),
@@ -12,17 +12,22 @@ pub enum TokenKind {
     Word(u32),
     /// A punctuator, by its place in the list of punctuators.
     Punctuator(u32),
-    /// An integer literal: whether it is decimal, its suffixes, and its value.
+    /// An integer literal: whether it is decimal, whether it has a suffix `u`, how often `l` stands in its suffix, and
+    /// its value. Some kind holds the value.
     Integer {
         decimal: bool,
         unsigned: bool,
         longs: u32,
         n: u64,
     },
+    /// A character literal, by its byte.
+    Character(u8),
+    /// A string literal, by the bytes that it means, without the zero byte at its end.
+    Text(Bytes),
 }
 
 /// A token, and where it stands. Token number n has the tokens from n up to n + 1 in its span.
-#[derive(Clone, Copy, Debug, PartialEq, Eq)]
+#[derive(Debug, Drop)]
 pub struct Token {
     pub kind: TokenKind,
     pub span: Span,

@@ -1,30 +1,55 @@
-use Rattle.std.proofs.Common.{sym, subst, ◌∙◌, ap}
-use Rattle.cxx_tokens.specs.Turns.{GivesToken}
-use Rattle.cxx_tokens.specs.Lex.{◌>>=◌}
-use Rattle.cxx_tokens.specs.Gives.{Fails}
-use Rattle.cxx_tokens.proofs.Fronted.{word_is, number_is, mark_is, nothing_is, found_as, Fails-bind}
+use Rattle.std.proofs.Common.{◌≡◌, ◌<◌, ◌∙◌, sym, subst, chars, true}
+use Rattle.std.specs.Char.{is_ascii_digit}
+use Rattle.cxx_tokens.specs.Cuts.{IsCut}
+use Rattle.cxx_tokens.specs.Literals.{integer_at}
+use Rattle.cxx_tokens.proofs.Integers.{some_integer}
+use Rattle.cxx_tokens.specs.Gives.{GivesToken}
+use Rattle.cxx_tokens.proofs.Beginnings.{at_end, character_here, integer_here, ok_with_length, punctuator_here, string_here, word_here}
 use Rattle.cxx_tokens.proofs.lexing.token_at.Goals as goal
 
-pub returns-in-Word-clause-found : goal.returns-in-Word-clause-found
-returns-in-Word-clause-found c =
+pub returns-in-None-clause-found : goal.returns-in-None-clause-found
+returns-in-None-clause-found c = at_end c.args.place c.args.names.now (chars c.args.text.now) c.in-None.ensures
+
+pub returns-then-begins_identifier-clause-found : goal.returns-then-begins_identifier-clause-found
+returns-then-begins_identifier-clause-found c =
     subst (GivesToken c.word_at.result c.word_at.new.names)
-    (sym (word_is c.args.place c.args.names.now c.args.text.now c.in-Word.length c.in-Word.ensures)) c.word_at.ensures.found
+    (sym (word_here c.args.place c.args.names.now (chars c.args.text.now) c.in-Some.c (chars c.in-Some.rest.now) c.in-Some.ensures (sym c.begins_identifier.ensures ∙ c.if-begins_identifier.true)))
+    c.word_at.ensures.found
 
-pub returns-in-Punctuator-clause-found : goal.returns-in-Punctuator-clause-found
-returns-in-Punctuator-clause-found c =
-    mark_is c.args.place c.args.names.now c.args.text.now c.in-Punctuator.mark c.requires.some c.in-Punctuator.ensures
+pub returns-then-is_ascii_digit-clause-found : goal.returns-then-is_ascii_digit-clause-found
+returns-then-is_ascii_digit-clause-found c =
+    subst (GivesToken c.integer_token_at.result c.args.names.now)
+    (sym (integer_here c.args.place c.args.names.now (chars c.args.text.now) c.in-Some.c (chars c.in-Some.rest.now) c.in-Some.ensures (sym c.begins_identifier.ensures ∙ c.if-begins_identifier.false)
+    (sym c.is_ascii_digit.ensures.value ∙ c.if-is_ascii_digit.true)))
+    (c.integer_token_at.ensures.found c.args.names.now)
 
-pub returns-in-Nothing-clause-found : goal.returns-in-Nothing-clause-found
-returns-in-Nothing-clause-found c = nothing_is c.args.place c.args.names.now c.args.text.now c.in-Nothing.ensures
+pub returns-then-is_ascii_digit-clause-cut : goal.returns-then-is_ascii_digit-clause-cut
+returns-then-is_ascii_digit-clause-cut c =
+    let digit : is_ascii_digit c.in-Some.c ≡ true = sym c.is_ascii_digit.ensures.value ∙ c.if-is_ascii_digit.true in
+    let some : 0 < (integer_at (chars c.args.text.now)).length =
+    subst (λ text. 0 < (integer_at text).length) (sym c.in-Some.ensures) (some_integer c.in-Some.c (chars c.in-Some.rest.now) digit) in
+    ok_with_length c.integer_token_at.result (λ found. found.cut.length) _ (λ found. IsCut c.args.text.now found.cut) some c.integer_token_at.ensures.length c.integer_token_at.ensures.cut
 
-pub returns-in-Ok-clause-found : goal.returns-in-Ok-clause-found
-returns-in-Ok-clause-found c =
-    number_is c.args.place c.args.names.now c.args.text.now c.split_at.result.0.now c.split_at.result.1.now c.in-Number.length
-    c.in-Number.ensures c.split_at.ensures.front c.split_at.ensures.back
-    ∙ ap (λ kind. kind >>= found_as c.in-Number.length c.args.names.now) c.in-Ok.ensures
+pub returns-then-c-eq39-clause-found : goal.returns-then-c-eq39-clause-found
+returns-then-c-eq39-clause-found c =
+    subst (GivesToken c.character_token_at.result c.args.names.now)
+    (sym (character_here c.args.place c.args.names.now (chars c.args.text.now) c.in-Some.c (chars c.in-Some.rest.now) c.in-Some.ensures (sym c.begins_identifier.ensures ∙ c.if-begins_identifier.false)
+    (sym c.is_ascii_digit.ensures.value ∙ c.if-is_ascii_digit.false) c.if-c-eq39.true))
+    (c.character_token_at.ensures.found c.args.names.now)
 
-pub returns-in-Err-clause-found : goal.returns-in-Err-clause-found
-returns-in-Err-clause-found c =
-    let whole = number_is c.args.place c.args.names.now c.args.text.now c.split_at.result.0.now c.split_at.result.1.now c.in-Number.length
-    c.in-Number.ensures c.split_at.ensures.front c.split_at.ensures.back in
-    subst (Fails c.in-Err.fault) (sym whole) (Fails-bind c.in-Err.fault _ (found_as c.in-Number.length c.args.names.now) c.in-Err.ensures)
+pub returns-then-c-eq34-clause-found : goal.returns-then-c-eq34-clause-found
+returns-then-c-eq34-clause-found c =
+    subst (GivesToken c.string_token_at.result c.string_token_at.new.names)
+    (sym (string_here c.args.place c.args.names.now (chars c.args.text.now) c.in-Some.c (chars c.in-Some.rest.now) c.in-Some.ensures (sym c.begins_identifier.ensures ∙ c.if-begins_identifier.false)
+    (sym c.is_ascii_digit.ensures.value ∙ c.if-is_ascii_digit.false) c.if-c-eq39.false c.if-c-eq34.true))
+    c.string_token_at.ensures.found
+
+pub returns-else-c-eq34-clause-found : goal.returns-else-c-eq34-clause-found
+returns-else-c-eq34-clause-found c =
+    subst (GivesToken c.punctuator_token_at.result c.args.names.now)
+    (sym (punctuator_here c.args.place c.args.names.now (chars c.args.text.now) c.in-Some.c (chars c.in-Some.rest.now) c.in-Some.ensures (sym c.begins_identifier.ensures ∙ c.if-begins_identifier.false)
+    (sym c.is_ascii_digit.ensures.value ∙ c.if-is_ascii_digit.false) c.if-c-eq39.false c.if-c-eq34.false))
+    (c.punctuator_token_at.ensures.found c.args.names.now)
+
+pub returns-else-c-eq34-clause-cut : goal.returns-else-c-eq34-clause-cut
+returns-else-c-eq34-clause-cut c = c.punctuator_token_at.ensures.cut

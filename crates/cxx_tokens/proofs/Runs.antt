@@ -1,0 +1,69 @@
+-- Runs that are all of a text, and words.
+use Rattle.std.proofs.Common.{◌≡◌, ◌↔◌, ℕ, suc, ◌+◌, ◌<◌, ◌≤◌, Bool, true, false, ◌&&◌, cond, ltb, arith, subst, List, [], ◌∷◌, drop, length, chars, encode_utf8_all, IsTrue, refl, sym, ap, ◌∙◌, true≢false}
+use Rattle.std.proofs.lemmas.Str.{encodes-chars, IsUtf8-from_is_utf8, is_utf8-from_IsUtf8}
+use Rattle.std.proofs.lemmas.Bool.Decides.{nat_tests}
+use Rattle.std.specs.Cmp.Lexicographic.{bytes_decides}
+use Rattle.std.specs.List.{prefix_len, list_all}
+use Rattle.std.specs.Str.{IsUtf8, is_utf8}
+use Rattle.cxx_base.specs.Texts.{Text, with_text}
+use Rattle.cxx_tokens.specs.Characters.{Characters}
+use Rattle.cxx_tokens.specs.Gaps.{is_empty}
+use Rattle.cxx_tokens.specs.Lex.{before_zero, is_identifier, is_short_and_composed, names_with_string}
+use Rattle.ucd_normal.specs.declared.forms.Form.TheVariants.{Nfc}
+use Rattle.unicode_normalization.specs.Forms.{IsInForm, is_in_form}
+
+-- nothing is behind a run exactly where all belong to it
+pub all_in_run : (p : ℕ → Bool) (text : Characters) → is_empty (drop (prefix_len p text) text) ≡ list_all p text
+all_in_run p [] = refl
+all_in_run p (c ∷ text) = by (p c) refl (all_in_run p text)
+  where
+    by : (b : Bool) → p c ≡ b → is_empty (drop (prefix_len p text) text) ≡ list_all p text
+        → is_empty (drop (cond b (1 + prefix_len p text) 0) (c ∷ text)) ≡ (b && list_all p text)
+    by true e more = let one : 1 + prefix_len p text ≡ suc (prefix_len p text) = omega arith in ap (λ k. is_empty (drop k (c ∷ text))) one ∙ more
+    by false e more = refl
+
+-- ---- words
+
+spelled : (word : Text) → IsUtf8 word → length (encode_utf8_all (chars word)) ≡ length word
+spelled word utf8 = ap length (encodes-chars word utf8)
+
+pub too_long : (word : Text) → IsUtf8 word → 255 < length word → false ≡ is_short_and_composed (chars word)
+too_long word utf8 h =
+    let e = spelled word utf8 in
+    let long : ltb 255 (length (encode_utf8_all (chars word))) ≡ true = grind (arith, nat_tests) in
+    rw long refl
+
+pub short_and_composed : (word : Text) → IsUtf8 word → length word ≤ 255 → (answer : Bool) → (IsTrue answer ↔ IsInForm Nfc (chars word))
+    → answer ≡ is_short_and_composed (chars word)
+short_and_composed word utf8 h answer says =
+    let e = spelled word utf8 in
+    let short : ltb 255 (length (encode_utf8_all (chars word))) ≡ false = grind (arith, nat_tests) in
+    by answer (is_in_form Nfc (chars word)) says refl ∙ sym (rw short refl)
+  where
+    by : (a b : Bool) → (IsTrue a ↔ IsInForm Nfc (chars word)) → is_in_form Nfc (chars word) ≡ b → a ≡ is_in_form Nfc (chars word)
+    by true true says e = sym e
+    by false false says e = sym e
+    by true false says e = sym ((bytes_decides _ _).1 (says.0 refl))
+    by false true says e = absurd (true≢false (sym (says.1 ((bytes_decides _ _).0 e))))
+
+-- ---- names of strings
+
+pub not_utf8 : (bytes : Text) → (¬ IsUtf8 bytes) → is_utf8 bytes ≡ false
+not_utf8 bytes h = by (is_utf8 bytes) refl
+  where
+    by : (b : Bool) → is_utf8 bytes ≡ b → b ≡ false
+    by true e = absurd (h (IsUtf8-from_is_utf8 bytes e))
+    by false e = refl
+
+-- a front that could not be a name
+pub names_stay : (names : List Text) (bytes : Text) → (is_utf8 (before_zero bytes) && is_identifier (chars (before_zero bytes))) ≡ false
+    → names ≡ names_with_string names bytes
+names_stay names bytes h = rw h refl
+
+-- one that could be
+pub name_is_added : (names : List Text) (bytes text : Text) → text ≡ before_zero bytes → IsUtf8 text → is_identifier (chars text) ≡ true
+    → with_text names text ≡ names_with_string names bytes
+name_is_added names bytes text h utf8 named =
+    let is : is_utf8 (before_zero bytes) ≡ true = is_utf8-from_IsUtf8 (before_zero bytes) (subst IsUtf8 h utf8) in
+    let name : is_identifier (chars (before_zero bytes)) ≡ true = ap (λ t. is_identifier (chars t)) (sym h) ∙ named in
+    ap (with_text names) h ∙ rw (is, name) refl

@@ -1,0 +1,8 @@
+use Rattle.std.proofs.Common.{arith}
+use Rattle.cxx_tokens.proofs.Cut.{characters_are_few}
+use Rattle.cxx_tokens.proofs.escape.numeric_escape.Goals as goal
+
+pub overflow_add-result : goal.overflow_add-result
+overflow_add-result c =
+    let few = characters_are_few c.args.text.now c.utf8.text in
+    omega (arith, few, c.requires.cut.within, c.requires.few)

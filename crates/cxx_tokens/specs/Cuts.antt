@@ -1,0 +1,68 @@
+-- What the functions that scan a text show of it, and the classes of characters that they run over.
+use Rattle.std.specs.Prelude.{◌≡◌, ◌≤◌, ◌+◌, ◌-◌, ℕ, Bool, min, ◌^◌, length, drop, chars, Option, None, Some, option_map, Result, Ok, Err}
+use Rattle.std.specs.Char.{is_ascii_digit}
+use Rattle.cxx_base.specs.Texts.{Text}
+use Rattle.cxx_tokens.specs.Characters.{is_blank, is_in_line, continues_identifier, is_digit_in}
+use Rattle.cxx_tokens.specs.Gaps.{is_no_quote}
+use Rattle.cxx_tokens.specs.Punctuators.{Punctuator}
+use Rattle.cxx_tokens.specs.declared.punctuator.Punctuator.{Punctuator as KeptPunctuator}
+use Rattle.cxx_tokens.specs.declared.run.Class.{Class}
+use Rattle.cxx_tokens.specs.declared.run.Class.TheVariants.{Continuing, Blank, InLine, NoQuote, Digit, Octal, Hexadecimal}
+use Rattle.cxx_tokens.specs.Literals.{Suffix, Integer, Escape}
+use Rattle.cxx_tokens.specs.declared.escape.Escape.{Escape as KeptEscape}
+use Rattle.cxx_tokens.specs.declared.fault.LexFault.{LexFault}
+use Rattle.cxx_tokens.specs.declared.integer.Suffix.{Suffix as KeptSuffix}
+use Rattle.cxx_tokens.specs.declared.integer.Integer.{Integer as KeptInteger}
+use Rattle.cxx_tokens.specs.declared.text.Cut.{Cut}
+
+-- the text is cut behind so many of its characters
+pub record IsCut (text : Text) (cut : Cut) : Type 0 where
+  pub rest : chars cut.rest.now ≡ drop cut.length (chars text)
+  pub within : cut.length ≤ length (chars text)
+
+-- the same, counted from one character before the text
+pub record IsCutBehindOne (text : Text) (cut : Cut) : Type 0 where
+  pub rest : chars cut.rest.now ≡ drop (cut.length - 1) (chars text)
+  pub some : 1 ≤ cut.length
+  pub within : cut.length ≤ 1 + length (chars text)
+
+abbrev pub length_of : Option Cut → Option ℕ
+length_of None = None
+length_of (Some cut) = Some cut.length
+
+-- the lengths of gaps
+abbrev pub lengths : Result (Option Cut) LexFault → Result (Option ℕ) LexFault
+lengths (Ok gap) = Ok (length_of gap)
+lengths (Err fault) = Err fault
+
+abbrev pub class_test : Class → ℕ → Bool
+class_test Continuing = continues_identifier
+class_test Blank = is_blank
+class_test InLine = is_in_line
+class_test NoQuote = is_no_quote
+class_test Digit = is_ascii_digit
+class_test Octal = is_digit_in 8
+class_test Hexadecimal = is_digit_in 16
+
+-- what is kept of integers: a value of 2^64 stands for each that is not smaller
+abbrev pub IsRadix : ℕ → Type 0
+IsRadix radix = (2 ≤ radix) × (radix ≤ 16)
+
+abbrev pub seen_suffix : KeptSuffix → Suffix
+seen_suffix found = record { length = found.cut.length; unsigned = found.unsigned; longs = found.longs }
+
+abbrev pub seen_integer : KeptInteger → Integer
+seen_integer found = record { length = found.cut.length; decimal = found.decimal; unsigned = found.unsigned; longs = found.longs; value = found.value }
+
+abbrev pub capped : Integer → Integer
+capped found = record found { value = min found.value (2 ^ 64) }
+
+abbrev pub seen_escape : Option KeptEscape → Option Escape
+seen_escape None = None
+seen_escape (Some found) = Some (record { length = found.cut.length; byte = found.byte })
+
+abbrev pub seen_punctuator : KeptPunctuator → Punctuator
+seen_punctuator found = record { number = found.number; length = found.cut.length }
+
+abbrev pub seen_punctuators : Option KeptPunctuator → Option Punctuator
+seen_punctuators found = option_map seen_punctuator found

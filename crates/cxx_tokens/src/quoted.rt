@@ -1,0 +1,74 @@
+//! String literals ([lex.string]).
+
+ghost use Rattle.std.specs.Prelude.{◌≡◌, ◌++◌, chars, IfOk, OnOk, encode_utf8, Ok, Err};
+ghost use Rattle.cxx_tokens.specs.Cuts.{IsCut};
+ghost use Rattle.cxx_tokens.specs.Gives.{GivesQuoted};
+ghost use Rattle.cxx_tokens.specs.Literals as spec;
+
+use crate::escape::{Escape, escape_at};
+use crate::fault::LexFault;
+use crate::text::{Cut, split_first};
+use cxx_base::{Bytes, Memory, Place};
+use std::alloc::Global;
+
+/// The bytes that a string means, and what follows it.
+#[derive(Debug, Drop)]
+pub struct Quoted<'a> {
+    pub bytes: Bytes,
+    pub cut: Cut<'a>,
+}
+
+// Why no escape stands behind a backslash: its line ends, or there is none such.
+fn no_escape(place: Place, text: &str) -> LexFault
+    ensures { result ≡ spec.no_escape place (chars text.now) }
+{
+    match split_first(text) {
+        None | Some(('\n', _)) => LexFault::L4(place),
+        Some(_) => LexFault::L2(place),
+    }
+}
+
+// Puts a character's bytes at the end.
+fn push_character(bytes: &mut Bytes, c: char) -> Result<(), Memory>
+    ensures { OnOk result (bytes.new ≡ bytes.old ++ encode_utf8 c) }
+{
+    let mut buffer = [0; 4];
+    bytes.extend(c.encode_utf8(&mut buffer).as_bytes())
+}
+
+/// The string behind its first quote, with the second one.
+pub fn string_at(alloc: Global, place: Place, text: &str) -> Result<Quoted<'_>, LexFault>
+    ensures quoted { GivesQuoted result (spec.string_at place (chars text.now)) }
+    ensures cut { IfOk result (λ found. IsCut text.now found.cut) }
+{
+    let mut bytes = Bytes::new(alloc);
+    let mut length = 0;
+    let mut rest = text;
+    while let Some((c, after)) = split_first(rest) {
+        if c == '"' {
+            let cut = Cut {
+                length: length + 1,
+                rest: after,
+            };
+            return Ok(Quoted { bytes, cut });
+        }
+        if c == '\n' {
+            break;
+        }
+        if c == '\\' {
+            match escape_at(after) {
+                None => return Err(no_escape(place, after)),
+                Some(escape) => {
+                    bytes.push(escape.byte)?;
+                    length += 1 + escape.cut.length;
+                    rest = escape.cut.rest;
+                }
+            }
+        } else {
+            push_character(&mut bytes, c)?;
+            length += 1;
+            rest = after;
+        }
+    }
+    Err(LexFault::L4(place))
+}
