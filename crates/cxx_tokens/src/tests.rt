@@ -34,130 +34,97 @@ fn shown(alloc: Global, names: &Names, kind: &TokenKind) -> Result<String, Alloc
 #[test]
 fn reads_kinds(rt: HostRuntime) -> Result<(), Fail> {
     numbers_are_places();
-    let table: [(&str, &[&str]); 24] = [
-        ("", &[]),
-        ("\u{feff}", &[]),
+    let table: [(&str, &str); 24] = [
+        ("", ""),
+        ("\u{feff}", ""),
         // the first and the last of 82 keywords, and the last of 11 alternative spellings
-        ("alignas while xor_eq", &["word 0", "word 81", "word 92"]),
+        ("alignas while xor_eq", "word 0 ; word 81 ; word 92 ;"),
         (
             "_a1 int2 Int _int größe x\u{304} std",
-            &["_a1", "int2", "Int", "_int", "größe", "x\u{304}", "std"],
+            "_a1 ; int2 ; Int ; _int ; größe ; x\u{304} ; std ;",
         ),
         // the bases, and the separators between digits
         (
             "0 017 0'7 00",
-            &[
-                "false false 0 0",
-                "false false 0 15",
-                "false false 0 7",
-                "false false 0 0",
-            ],
+            "false false 0 0 ; false false 0 15 ; false false 0 7 ; false false 0 0 ;",
         ),
         (
             "10 1'0'0 9223372036854775807",
-            &[
-                "true false 0 10",
-                "true false 0 100",
-                "true false 0 9223372036854775807",
-            ],
+            "true false 0 10 ; true false 0 100 ; true false 0 9223372036854775807 ;",
         ),
         (
             "0x1F 0xf'F 0b101 0b1'1",
-            &[
-                "false false 0 31",
-                "false false 0 255",
-                "false false 0 5",
-                "false false 0 3",
-            ],
+            "false false 0 31 ; false false 0 255 ; false false 0 5 ; false false 0 3 ;",
         ),
         // 2^64 - 1 has a kind where it may be unsigned
         (
             "0xFFFFFFFFFFFFFFFF 18446744073709551615u",
-            &[
-                "false false 0 18446744073709551615",
-                "true true 0 18446744073709551615",
-            ],
+            "false false 0 18446744073709551615 ; true true 0 18446744073709551615 ;",
         ),
         (
             "1u 1U 1l 1L 1ll 1LL",
-            &[
-                "true true 0 1",
-                "true true 0 1",
-                "true false 1 1",
-                "true false 1 1",
-                "true false 2 1",
-                "true false 2 1",
-            ],
+            "true true 0 1 ; true true 0 1 ; true false 1 1 ; true false 1 1 ; true false 2 1 ; true false 2 1 ;",
         ),
         (
             "1ul 1lu 1uLL 1LLU",
-            &[
-                "true true 1 1",
-                "true true 1 1",
-                "true true 2 1",
-                "true true 2 1",
-            ],
+            "true true 1 1 ; true true 1 1 ; true true 2 1 ; true true 2 1 ;",
         ),
         (
             "'a' '\"' '\t' '\\'' '\\\\' '\\n' '\\?'",
-            &["'97", "'34", "'9", "'39", "'92", "'10", "'63"],
+            "'97 ; '34 ; '9 ; '39 ; '92 ; '10 ; '63 ;",
         ),
         // one to three octal digits, and all hexadecimal ones
         (
             "'\\0' '\\101' '\\377' '\\x41' '\\x0ff'",
-            &["'0", "'65", "'255", "'65", "'255"],
+            "'0 ; '65 ; '255 ; '65 ; '255 ;",
         ),
         // the zero byte at the end is not of the token; a fourth digit is of no octal escape
         (
             "\"\" \"ab\" \"a\\tb\" \"\\1234\"",
-            &["[]", "[97, 98]", "[97, 9, 98]", "[83, 52]"],
+            "[] ; [97, 98] ; [97, 9, 98] ; [83, 52] ;",
         ),
         // ö is two bytes, as an escape is one
         (
             "\"ö\" \"\\xf6\" \"'\" \"//\"",
-            &["[195, 182]", "[246]", "[39]", "[47, 47]"],
+            "[195, 182] ; [246] ; [39] ; [47, 47] ;",
         ),
         // the longest punctuator
         (
             "<<= << <= < >>= ->-- -= ^^= :: :]",
-            &[
-                "<<=", "<<", "<=", "<", ">>=", "->", "--", "-=", "^^", "=", "::", ":]",
-            ],
+            "<<= ; << ; <= ; < ; >>= ; -> ; -- ; -= ; ^^ ; = ; :: ; :] ;",
         ),
         (
             "{}[]();:,.?+*/%^&|~!=",
-            &[
-                "{", "}", "[", "]", "(", ")", ";", ":", ",", ".", "?", "+", "*", "/", "%", "^",
-                "&", "|", "~", "!=",
-            ],
+            "{ ; } ; [ ; ] ; ( ; ) ; ; ; : ; , ; . ; ? ; + ; * ; / ; % ; ^ ; & ; | ; ~ ; != ;",
         ),
         // `[::` is `[` and `::`, unless a colon follows
-        ("[::", &["[", "::"]),
-        ("[:::", &["[:", "::"]),
-        ("[::a [: a", &["[", "::", "a", "[:", "a"]),
+        ("[::", "[ ; :: ;"),
+        ("[:::", "[: ; :: ;"),
+        ("[::a [: a", "[ ; :: ; a ; [: ; a ;"),
         // gaps
-        ("a \t\u{b}\u{c}\r\n b", &["a", "b"]),
-        (
-            "a/**/b/*/ * **/c//d\ne/ *f",
-            &["a", "b", "c", "e", "/", "*", "f"],
-        ),
+        ("a \t\u{b}\u{c}\r\n b", "a ; b ;"),
+        ("a/**/b/*/ * **/c//d\ne/ *f", "a ; b ; c ; e ; / ; * ; f ;"),
         (
             "# 1 \"a.cpp\" 2 3\r\n #include <meta>\n/* x */ # 7 \"\" \na",
-            &["a"],
+            "a ;",
         ),
         // the comment began on the line of a token, and the mark is the first token of its own
-        ("a /*\n*/ #1\"b\"3\nc", &["a", "c"]),
-        ("1'a'", &["true false 0 1", "'97"]),
+        ("a /*\n*/ #1\"b\"3\nc", "a ; c ;"),
+        ("1'a'", "true false 0 1 ; '97 ;"),
     ];
     for (text, kinds) in table {
         let mut names = Names::new(rt.alloc())?;
         assert!(rt; names.len() == 69 && text.len() < 300);
         let found = tokens(rt.alloc(), &mut names, text.as_bytes())?;
-        assert_eq!(rt; found.list.len(), kinds.len(), "the tokens of {text:?}");
-        for (token, kind) in found.list.as_slice().iter().zip(kinds) {
-            let seen = shown(rt.alloc(), &names, &token.kind)?;
-            assert_eq!(rt; seen.as_str(), *kind, "in {text:?}");
+        let mut seen = String::new(rt.alloc());
+        for token in found.list.as_slice() {
+            if !seen.as_str().is_empty() {
+                seen.push(' ')?;
+            }
+            seen.push_str(shown(rt.alloc(), &names, &token.kind)?.as_str())?;
+            seen.push_str(" ;")?;
         }
+        assert_eq!(rt; seen.as_str(), kinds, "in {text:?}");
     }
     Ok(())
 }

@@ -1,6 +1,7 @@
 pub mod Distinct
 pub mod Forms
 pub mod Links
+pub mod Refusals
 pub mod StdName
 pub mod Trees
 pub mod Turns

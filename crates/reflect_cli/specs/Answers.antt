@@ -1,18 +1,25 @@
 -- What the parts of the top call give.
-use Rattle.std.specs.Prelude.{◌≡◌, Option, None, Some, Result, Ok, Err, if◌then◌else◌}
-use Rattle.cxx_base.specs.declared.refusal.Code.TheVariants.{S1}
-use Rattle.reflect_cli.specs.Program.{source_refusal}
+use Rattle.std.specs.Prelude.{◌≡◌, Result, Ok, Err, if◌then◌else◌}
+use Rattle.cxx_base.specs.declared.refusal.Refusal.{Refusal}
+use Rattle.cxx_tokens.specs.declared.fault.LexFault.{LexFault}
+use Rattle.cxx_tokens.specs.declared.fault.LexFault.TheVariants.{Memory}
+use Rattle.reflect_cli.specs.Program.{text_refusal}
 use Rattle.reflect_cli.specs.Told.{Answer as Told}
 use Rattle.reflect_cli.specs.declared.answer.Answer.{Answer}
 use Rattle.reflect_cli.specs.declared.program.Program.{Program}
 use Rattle.reflect_cli.specs.declared.program.ProgramFault.{ProgramFault}
 use Rattle.reflect_cli.specs.declared.program.ProgramFault.TheVariants as fault
 
--- the program, or why there is none
-abbrev pub GivesProgram : Option Program → Result Program ProgramFault → Type 0
-GivesProgram read (Ok program) = read ≡ Some program
-GivesProgram read (Err (fault.Refused refusal)) = (read ≡ None) × (refusal ≡ source_refusal S1)
+-- the program, or why there is none, unless memory ran out
+abbrev pub GivesProgram : Result Program Refusal → Result Program ProgramFault → Type 0
+GivesProgram read (Ok program) = read ≡ Ok program
+GivesProgram read (Err (fault.Refused refusal)) = read ≡ Err refusal
 GivesProgram read (Err fault.Memory) = Unit {0}
+
+-- why a text that has no tokens has no program
+abbrev pub fault_of : LexFault → ProgramFault
+fault_of Memory = fault.Memory
+fault_of found = fault.Refused (text_refusal found)
 
 -- the answer that is told
 abbrev pub IsTold : Told → Answer → Type 0

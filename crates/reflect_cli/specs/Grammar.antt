@@ -1,6 +1,6 @@
 -- The grammar of the accepted declarations, after [dcl.constexpr], [expr.add] and [expr.mul]. A rule gives, at the number
 -- of a token, a tree and the number of the token after it, or nothing where none begins there.
-use Rattle.std.specs.Prelude.{ℕ, zero, suc, ◌+◌, Bool, true, false, not, ◌&&◌, ◌==◌, if◌then◌else◌, pos, List, [], ◌∷◌, length, Option, Some, None, slice_get}
+use Rattle.std.specs.Prelude.{ℕ, zero, suc, ◌+◌, Bool, true, false, not, ◌&&◌, ◌||◌, ◌==◌, if◌then◌else◌, pos, List, [], ◌∷◌, length, Option, Some, None, slice_get}
 use Rattle.std.specs.Option.{option_map}
 use Rattle.cxx_base.specs.declared.names.Name.{Name}
 use Rattle.cxx_base.specs.declared.place.Place.{Place}
@@ -53,26 +53,39 @@ is_word word (kind.Word n) = n == word
 is_word word (kind.Punctuator n) = false
 is_word word (kind.Identifier name) = false
 is_word word (kind.Integer decimal unsigned longs n) = false
+is_word word (kind.Character byte) = false
+is_word word (kind.Text bytes) = false
 
 abbrev pub is_punctuator : ℕ → TokenKind → Bool
 is_punctuator mark (kind.Punctuator n) = n == mark
 is_punctuator mark (kind.Word n) = false
 is_punctuator mark (kind.Identifier name) = false
 is_punctuator mark (kind.Integer decimal unsigned longs n) = false
+is_punctuator mark (kind.Character byte) = false
+is_punctuator mark (kind.Text bytes) = false
 
 abbrev pub name_of : TokenKind → Option Name
 name_of (kind.Identifier name) = Some name
 name_of (kind.Word n) = None
 name_of (kind.Punctuator n) = None
 name_of (kind.Integer decimal unsigned longs n) = None
+name_of (kind.Character byte) = None
+name_of (kind.Text bytes) = None
 
--- a literal that is of type int without a suffix ([lex.icon])
+-- a decimal number or 0, where it is of type int ([lex.icon])
+abbrev pub int_literal : Place → Bool → ℕ → Option Literal
+int_literal place decimal n =
+    if (decimal || n == 0) && has_value Int (pos n) then Some (record { place = place; value = pos n }) else None
+
+-- an integer without a suffix
 abbrev pub literal_of : Place → TokenKind → Option Literal
 literal_of place (kind.Integer decimal unsigned longs n) =
-    if not unsigned && longs == 0 && has_value Int (pos n) then Some (record { place = place; value = pos n }) else None
+    if not unsigned && longs == 0 then int_literal place decimal n else None
 literal_of place (kind.Word n) = None
 literal_of place (kind.Punctuator n) = None
 literal_of place (kind.Identifier name) = None
+literal_of place (kind.Character byte) = None
+literal_of place (kind.Text bytes) = None
 
 -- the operators of [expr.mul]
 abbrev pub multiplicative : ℕ → Option Arithmetic
@@ -88,6 +101,8 @@ operator_of table (kind.Punctuator mark) = table mark
 operator_of table (kind.Word n) = None
 operator_of table (kind.Identifier name) = None
 operator_of table (kind.Integer decimal unsigned longs n) = None
+operator_of table (kind.Character byte) = None
+operator_of table (kind.Text bytes) = None
 
 abbrev pub one : {A : Type 0} → (Token → Option A) → ℕ → Option Token → Option (A × ℕ)
 one read at None = None

@@ -1,9 +1,9 @@
 -- What the program tells: the full text and the status, from the words and the bytes of the source.
-use Rattle.std.specs.Prelude.{ℕ, Bool, false, ◌==◌, nat_lt, if◌then◌else◌, List, [], ◌∷◌, length, map, Option, None, Some, codes}
+use Rattle.std.specs.Prelude.{ℕ, Bool, false, ◌==◌, nat_lt, if◌then◌else◌, List, [], ◌∷◌, length, map, Option, None, Some, Result, Ok, Err, codes}
 use Rattle.std.specs.List.{count_by}
 use Rattle.std.specs.Str.{bytes_eq}
 use Rattle.cxx_base.specs.Texts.{Text}
-use Rattle.cxx_base.specs.declared.refusal.Code.TheVariants.{S1, L6}
+use Rattle.cxx_base.specs.declared.refusal.Code.TheVariants.{L6}
 use Rattle.cxx_base.specs.declared.refusal.Refusal.{Refusal}
 use Rattle.reflect_cli.specs.Order.{outcome_of}
 use Rattle.reflect_cli.specs.Program.{program_of, source_refusal}
@@ -24,9 +24,9 @@ abbrev pub translated : List Text → List Outcome → Answer
 translated names outcomes =
     record { text = report names outcomes; status = if count_by is_refused outcomes == 0 then 0 else 1 }
 
-abbrev pub answer_by : Option Program → Answer
-answer_by None = refused (source_refusal S1)
-answer_by (Some program) = translated program.names (map outcome_of program.declarations)
+abbrev pub answer_by : Result Program Refusal → Answer
+answer_by (Err refusal) = refused refusal
+answer_by (Ok program) = translated program.names (map outcome_of program.declarations)
 
 -- the report of a source and its status
 unfoldable pub report_of : Text → Answer

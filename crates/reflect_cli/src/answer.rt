@@ -1,6 +1,6 @@
 //! The full text that the program writes, and its status.
 
-ghost use Rattle.std.specs.Prelude.{◌≡◌, ◌≤◌, ◌++◌, Some, IfOk, length, if◌then◌else◌};
+ghost use Rattle.std.specs.Prelude.{◌≡◌, ◌≤◌, ◌++◌, Ok, IfOk, length, if◌then◌else◌};
 ghost use Rattle.std.specs.List.{flat_map, count_by};
 ghost use Rattle.reflect_cli.specs.Answers.{IsTold};
 ghost use Rattle.reflect_cli.specs.Report as report;
@@ -8,9 +8,9 @@ ghost use Rattle.reflect_cli.specs.Told as spec;
 
 use crate::core_tree::Outcome;
 use crate::piece_order::translate_in_order;
-use crate::program::{Program, ProgramFault, program_of, source_refusal};
+use crate::program::{Program, ProgramFault, program_of};
 use crate::report_print::{append_last, append_outcome, append_refusal};
-use cxx_base::{Bytes, Code, Memory, Names, Refusal};
+use cxx_base::{Bytes, Memory, Names, Refusal};
 use std::alloc::Global;
 
 /// A text, and whether it refuses something.
@@ -72,7 +72,7 @@ fn translated(alloc: Global, names: &Names, outcomes: &[Outcome]) -> Result<Answ
 
 fn translate(alloc: Global, program: &Program) -> Result<Answer, Memory>
     requires { length program.now.declarations ≤ 65536 }
-    ensures { IfOk result (IsTold (spec.answer_by (Some program.now))) }
+    ensures { IfOk result (IsTold (spec.answer_by (Ok program.now))) }
 {
     let outcomes = translate_in_order(alloc, program.declarations.as_slice())?;
     translated(alloc, &program.names, outcomes.as_slice())

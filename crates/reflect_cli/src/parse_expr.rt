@@ -28,76 +28,105 @@ impl From<AllocError> for ParseFault {
     }
 }
 
-fn is_word(kind: TokenKind, word: u32) -> bool
-    ensures { result ≡ spec.is_word word kind }
+fn is_word(kind: &TokenKind, word: u32) -> bool
+    ensures { result ≡ spec.is_word word kind.now }
 {
     match kind {
-        TokenKind::Word(n) => n == word,
-        TokenKind::Identifier(_) | TokenKind::Punctuator(_) | TokenKind::Integer { .. } => false,
+        TokenKind::Word(n) => *n == word,
+        TokenKind::Identifier(_)
+        | TokenKind::Punctuator(_)
+        | TokenKind::Integer { .. }
+        | TokenKind::Character(_)
+        | TokenKind::Text(_) => false,
     }
 }
 
-fn is_punctuator(kind: TokenKind, mark: u32) -> bool
-    ensures { result ≡ spec.is_punctuator mark kind }
+fn is_punctuator(kind: &TokenKind, mark: u32) -> bool
+    ensures { result ≡ spec.is_punctuator mark kind.now }
 {
     match kind {
-        TokenKind::Punctuator(n) => n == mark,
-        TokenKind::Identifier(_) | TokenKind::Word(_) | TokenKind::Integer { .. } => false,
+        TokenKind::Punctuator(n) => *n == mark,
+        TokenKind::Identifier(_)
+        | TokenKind::Word(_)
+        | TokenKind::Integer { .. }
+        | TokenKind::Character(_)
+        | TokenKind::Text(_) => false,
     }
 }
 
-fn name_of(kind: TokenKind) -> Option<Name>
-    ensures { result ≡ spec.name_of kind }
+fn name_of(kind: &TokenKind) -> Option<Name>
+    ensures { result ≡ spec.name_of kind.now }
 {
     match kind {
-        TokenKind::Identifier(name) => Some(name),
-        TokenKind::Word(_) | TokenKind::Punctuator(_) | TokenKind::Integer { .. } => None,
+        TokenKind::Identifier(name) => Some(*name),
+        TokenKind::Word(_)
+        | TokenKind::Punctuator(_)
+        | TokenKind::Integer { .. }
+        | TokenKind::Character(_)
+        | TokenKind::Text(_) => None,
     }
 }
 
-fn literal_of(place: Place, kind: TokenKind) -> Option<Literal>
-    ensures { result ≡ spec.literal_of place kind }
+fn int_literal(place: Place, decimal: bool, value: u64) -> Option<Literal>
+    ensures { result ≡ spec.int_literal place decimal value }
+{
+    if (decimal || value == 0) && value <= 2_147_483_647 {
+        Some(Literal {
+            place,
+            value: value as i32,
+        })
+    } else {
+        None
+    }
+}
+
+fn literal_of(place: Place, kind: &TokenKind) -> Option<Literal>
+    ensures { result ≡ spec.literal_of place kind.now }
 {
     match kind {
         TokenKind::Integer {
-            decimal: _,
-            unsigned,
-            longs,
+            decimal,
+            unsigned: false,
+            longs: 0,
             n,
-        } => {
-            if !unsigned && longs == 0 && n <= 2_147_483_647 {
-                Some(Literal {
-                    place,
-                    value: n as i32,
-                })
-            } else {
-                None
-            }
-        }
-        TokenKind::Identifier(_) | TokenKind::Word(_) | TokenKind::Punctuator(_) => None,
+        } => int_literal(place, *decimal, *n),
+        TokenKind::Integer { .. }
+        | TokenKind::Identifier(_)
+        | TokenKind::Word(_)
+        | TokenKind::Punctuator(_)
+        | TokenKind::Character(_)
+        | TokenKind::Text(_) => None,
     }
 }
 
-fn multiplicative(kind: TokenKind) -> Option<Arithmetic>
-    ensures { result ≡ spec.operator_of spec.multiplicative kind }
+fn multiplicative(kind: &TokenKind) -> Option<Arithmetic>
+    ensures { result ≡ spec.operator_of spec.multiplicative kind.now }
 {
     match kind {
         TokenKind::Punctuator(STAR) => Some(Arithmetic::Mul),
         TokenKind::Punctuator(SLASH) => Some(Arithmetic::Div),
         TokenKind::Punctuator(PERCENT) => Some(Arithmetic::Rem),
-        TokenKind::Punctuator(_) => None,
-        TokenKind::Identifier(_) | TokenKind::Word(_) | TokenKind::Integer { .. } => None,
+        TokenKind::Punctuator(_)
+        | TokenKind::Identifier(_)
+        | TokenKind::Word(_)
+        | TokenKind::Integer { .. }
+        | TokenKind::Character(_)
+        | TokenKind::Text(_) => None,
     }
 }
 
-fn additive(kind: TokenKind) -> Option<Arithmetic>
-    ensures { result ≡ spec.operator_of spec.additive kind }
+fn additive(kind: &TokenKind) -> Option<Arithmetic>
+    ensures { result ≡ spec.operator_of spec.additive kind.now }
 {
     match kind {
         TokenKind::Punctuator(PLUS) => Some(Arithmetic::Add),
         TokenKind::Punctuator(MINUS) => Some(Arithmetic::Sub),
-        TokenKind::Punctuator(_) => None,
-        TokenKind::Identifier(_) | TokenKind::Word(_) | TokenKind::Integer { .. } => None,
+        TokenKind::Punctuator(_)
+        | TokenKind::Identifier(_)
+        | TokenKind::Word(_)
+        | TokenKind::Integer { .. }
+        | TokenKind::Character(_)
+        | TokenKind::Text(_) => None,
     }
 }
 
@@ -108,7 +137,7 @@ pub fn word_at(tokens: &[Token], word: u32, at: u32) -> Result<u32, ParseFault>
 {
     match tokens.get(at as usize) {
         Some(token) => {
-            if is_word(token.kind, word) {
+            if is_word(&token.kind, word) {
                 Ok(at + 1)
             } else {
                 Err(ParseFault::Syntax)
@@ -125,7 +154,7 @@ pub fn punctuator_at(tokens: &[Token], mark: u32, at: u32) -> Result<u32, ParseF
 {
     match tokens.get(at as usize) {
         Some(token) => {
-            if is_punctuator(token.kind, mark) {
+            if is_punctuator(&token.kind, mark) {
                 Ok(at + 1)
             } else {
                 Err(ParseFault::Syntax)
@@ -141,7 +170,7 @@ pub fn identifier_at(tokens: &[Token], at: u32) -> Result<(Name, u32), ParseFaul
     ensures { Gives (spec.identifier tokens.now at) result }
 {
     match tokens.get(at as usize) {
-        Some(token) => match name_of(token.kind) {
+        Some(token) => match name_of(&token.kind) {
             Some(name) => Ok((name, at + 1)),
             None => Err(ParseFault::Syntax),
         },
@@ -154,7 +183,7 @@ fn literal_at(tokens: &[Token], at: u32) -> Result<(Literal, u32), ParseFault>
     ensures { Gives (spec.literal tokens.now at) result }
 {
     match tokens.get(at as usize) {
-        Some(token) => match literal_of(token.span.place, token.kind) {
+        Some(token) => match literal_of(token.span.place, &token.kind) {
             Some(literal) => Ok((literal, at + 1)),
             None => Err(ParseFault::Syntax),
         },
@@ -167,7 +196,7 @@ fn multiplicative_at(tokens: &[Token], at: u32) -> Result<(Arithmetic, u32), Par
     ensures { Gives (spec.operator tokens.now spec.multiplicative at) result }
 {
     match tokens.get(at as usize) {
-        Some(token) => match multiplicative(token.kind) {
+        Some(token) => match multiplicative(&token.kind) {
             Some(operator) => Ok((operator, at + 1)),
             None => Err(ParseFault::Syntax),
         },
@@ -180,7 +209,7 @@ fn additive_at(tokens: &[Token], at: u32) -> Result<(Arithmetic, u32), ParseFaul
     ensures { Gives (spec.operator tokens.now spec.additive at) result }
 {
     match tokens.get(at as usize) {
-        Some(token) => match additive(token.kind) {
+        Some(token) => match additive(&token.kind) {
             Some(operator) => Ok((operator, at + 1)),
             None => Err(ParseFault::Syntax),
         },

@@ -1,7 +1,7 @@
 //! From bytes to a program.
 
 ghost use Rattle.std.specs.Prelude.{◌≡◌, ◌≤◌, ◌<◌, ◌^◌, IfOk, length};
-ghost use Rattle.reflect_cli.specs.Answers.{GivesProgram};
+ghost use Rattle.reflect_cli.specs.Answers.{GivesProgram, fault_of};
 ghost use Rattle.reflect_cli.specs.Program as spec;
 
 use crate::cxx_tree::Declaration;
@@ -37,15 +37,36 @@ impl From<Memory> for ProgramFault {
     }
 }
 
-/// A refusal of the source as a whole, which stands at its start.
-pub fn source_refusal(code: Code) -> Refusal
-    ensures { result ≡ spec.source_refusal code }
+// A refusal of the source as a whole, at a place.
+fn refusal_at(code: Code, place: Place) -> Refusal
+    ensures { result ≡ spec.refusal_at code place }
 {
     Refusal {
         code,
         detail: 0,
-        place: Place::START,
+        place,
         inner: None,
+    }
+}
+
+/// A refusal of the source as a whole, at its start.
+pub fn source_refusal(code: Code) -> Refusal
+    ensures { result ≡ spec.source_refusal code }
+{
+    refusal_at(code, Place::START)
+}
+
+// Why there is no program of a text that has no tokens: the code of the fault, at its place.
+fn fault_of(fault: LexFault) -> ProgramFault
+    ensures { result ≡ fault_of fault }
+{
+    match fault {
+        LexFault::L1(place) => ProgramFault::Refused(refusal_at(Code::L1, place)),
+        LexFault::L2(place) => ProgramFault::Refused(refusal_at(Code::L2, place)),
+        LexFault::L3(place) => ProgramFault::Refused(refusal_at(Code::L3, place)),
+        LexFault::L4(place) => ProgramFault::Refused(refusal_at(Code::L4, place)),
+        LexFault::L5(place) => ProgramFault::Refused(refusal_at(Code::L5, place)),
+        LexFault::Memory => ProgramFault::Memory,
     }
 }
 
@@ -79,8 +100,9 @@ fn parsed(alloc: Global, names: Names, tokens: &Tokens) -> Result<Program, Progr
     }
 }
 
-/// The program of a source text. A text that is not of the accepted form is refused `S1` at its start.
-#[tactic(auto, unfolding(crate::specs::Program::program_of))]
+/// The program of a source text. A text that has no tokens is refused with the code of the lexer's fault at its place; one
+/// that has tokens and is not of the accepted form is refused `S1` at its start.
+#[tactic(auto, using(crate::proofs::Refusals::without_tokens), unfolding(crate::specs::Program::program_of))]
 pub fn program_of(alloc: Global, bytes: &[u8]) -> Result<Program, ProgramFault>
     requires { length bytes.now ≤ 4194304 }
     ensures program { GivesProgram (spec.program_of bytes.now) result }
@@ -89,9 +111,6 @@ pub fn program_of(alloc: Global, bytes: &[u8]) -> Result<Program, ProgramFault>
     let mut names = Names::new(alloc)?;
     match tokens(alloc, &mut names, bytes) {
         Ok(tokens) => parsed(alloc, names, &tokens),
-        Err(LexFault::L2(_) | LexFault::L3(_) | LexFault::L5(_)) => {
-            Err(ProgramFault::Refused(source_refusal(Code::S1)))
-        }
-        Err(LexFault::Memory) => Err(ProgramFault::Memory),
+        Err(fault) => Err(fault_of(fault)),
     }
 }

@@ -58,9 +58,11 @@ fn run_over(alloc: Global, words: &[&str], source: &[u8], devices: Devices) -> R
     })
 }
 
+const SYNTAX: &str = "1:1: error S1: syntax error\n";
+
 /// A source, the report that is told for it, and the status. The values are from exact arithmetic, the places are
 /// counted by hand.
-const REPORTS: [(&str, &str, u8); 24] = [
+const REPORTS: [(&str, &str, u8); 29] = [
     ("", "pieces 0 refused 0\n", 0),
     ("\n \n", "pieces 0 refused 0\n", 0),
     (
@@ -111,31 +113,26 @@ const REPORTS: [(&str, &str, u8); 24] = [
         "1:19: error V1: signed overflow (at 1:19)\npieces 1 refused 1\n",
         1,
     ),
+    ("constexpr int a = 2147483648;", SYNTAX, 1),
+    // octal, hexadecimal and binary literals are of the form where they are 0
     (
-        "constexpr int a = 2147483648;",
-        "1:1: error S1: syntax error\n",
-        1,
+        "constexpr int a = 00 - 0x0 - 0b0;",
+        "const a : const int = 0\npieces 1 refused 0\n",
+        0,
     ),
-    ("constexpr int a = 00;", "1:1: error S1: syntax error\n", 1),
-    ("constexpr int a = ;", "1:1: error S1: syntax error\n", 1),
-    (
-        "constexpr int a = 1 + ;",
-        "1:1: error S1: syntax error\n",
-        1,
-    ),
-    (
-        "constexpr int a = 1 + * 2;",
-        "1:1: error S1: syntax error\n",
-        1,
-    ),
-    ("constexpr int a = 1", "1:1: error S1: syntax error\n", 1),
-    ("constexprint a = 1;", "1:1: error S1: syntax error\n", 1),
-    (
-        "constexpr int class = 1;",
-        "1:1: error S1: syntax error\n",
-        1,
-    ),
-    ("constexpr int std = 1;", "1:1: error S1: syntax error\n", 1),
+    ("constexpr int a = 01;", SYNTAX, 1),
+    ("constexpr int a = 0x1;", SYNTAX, 1),
+    ("constexpr int a = 1u;", SYNTAX, 1),
+    ("constexpr int a = 0l;", SYNTAX, 1),
+    ("constexpr int a = '1';", SYNTAX, 1),
+    ("constexpr int a = \"1\";", SYNTAX, 1),
+    ("constexpr int a = ;", SYNTAX, 1),
+    ("constexpr int a = 1 + ;", SYNTAX, 1),
+    ("constexpr int a = 1 + * 2;", SYNTAX, 1),
+    ("constexpr int a = 1", SYNTAX, 1),
+    ("constexprint a = 1;", SYNTAX, 1),
+    ("constexpr int class = 1;", SYNTAX, 1),
+    ("constexpr int std = 1;", SYNTAX, 1),
     (
         "constexpr int meta = 1;",
         "const meta : const int = 1\npieces 1 refused 0\n",
@@ -143,14 +140,14 @@ const REPORTS: [(&str, &str, u8); 24] = [
     ),
     (
         "constexpr int a = 1; constexpr int b = 1; constexpr int a = 2;",
-        "1:1: error S1: syntax error\n",
+        SYNTAX,
         1,
     ),
-    ("constexpr\tint a = 1;", "1:1: error S1: syntax error\n", 1),
+    // gaps of each kind, a mark of the encoding, and a name beyond ASCII
     (
-        "constexpr int \u{f6} = 1;",
-        "1:1: error S1: syntax error\n",
-        1,
+        "\u{feff}# 1 \"a.cpp\"\nconstexpr\tint/**/\u{f6}\r\n= 1'0 // ten\n;",
+        "const \u{f6} : const int = 10\npieces 1 refused 0\n",
+        0,
     ),
 ];
 
@@ -160,6 +157,59 @@ fn reports_are_told(rt: HostRuntime) -> Result<(), Fail> {
         let found = run_over(rt.alloc(), &["order"], case.0.as_bytes(), PLAIN)?;
         assert_eq!(rt; found.held.as_slice(), case.1.as_bytes(), "the report");
         assert_eq!(rt; found.status, case.2, "the status");
+        assert_eq!(rt; found.left, 0, "read to the end");
+    }
+    Ok(())
+}
+
+/// Sources that have no tokens, and the one line that is told of each. The places are counted by hand.
+const WITHOUT_TOKENS: [(&[u8], &str); 10] = [
+    // the byte 0xff begins no character; the one of two bytes before it is one column
+    (
+        b"constexpr int a = 1;\n\xc3\xb6 \xff",
+        "2:3: error L1: source is not UTF-8\n",
+    ),
+    // a byte order mark is no column
+    (b"\xef\xbb\xbf@", "1:1: error L2: no token begins here\n"),
+    // a digit follows the octal number 0
+    (
+        b"constexpr int a = 09;",
+        "1:19: error L2: no token begins here\n",
+    ),
+    // 2^64
+    (
+        b"constexpr int a = 18446744073709551616u;",
+        "1:19: error L3: integer literal is too large\n",
+    ),
+    (
+        b"constexpr int a = \"1;\n",
+        "1:19: error L4: literal or comment does not end\n",
+    ),
+    (
+        b"\n /* *\n/",
+        "2:2: error L4: literal or comment does not end\n",
+    ),
+    // an `e` and a combining acute accent, which form C writes as one character
+    (
+        b"constexpr int e\xcc\x81 = 1;",
+        "1:15: error L5: identifier is too long or not in normalization form C\n",
+    ),
+    // L1 comes before all others, and of those the first from the left
+    (b"@ \xff", "1:3: error L1: source is not UTF-8\n"),
+    (
+        b"99999999999999999999 @",
+        "1:1: error L3: integer literal is too large\n",
+    ),
+    // and before a syntax error that stands before it
+    (b"int a = @;", "1:9: error L2: no token begins here\n"),
+];
+
+#[test]
+fn sources_without_tokens(rt: HostRuntime) -> Result<(), Fail> {
+    for case in WITHOUT_TOKENS.iter() {
+        let found = run_over(rt.alloc(), &["order"], case.0, PLAIN)?;
+        assert_eq!(rt; found.held.as_slice(), case.1.as_bytes(), "the report");
+        assert_eq!(rt; found.status, 1, "the status");
         assert_eq!(rt; found.left, 0, "read to the end");
     }
     Ok(())
@@ -212,15 +262,15 @@ fn repeated(
     Ok(text)
 }
 
-const SYNTAX: &str = "1:1: error S1: syntax error\n";
+const LONG_NAME: &str = "1:15: error L5: identifier is too long or not in normalization form C\n";
 
 const TOO_LONG: &str = "1:1: error L6: source is longer than 4194304 bytes\n";
 
 /// Sources at a limit and one beyond it: `before`, so many times `unit`, `after`, and the last line of the report.
-const LIMITS: [(&str, &str, usize, &str, &str); 8] = [
+const LIMITS: [(&str, &str, usize, &str, &str); 9] = [
     // names of 255 and 256 bytes
     ("constexpr int ", "n", 255, " = 1;", "pieces 1 refused 0\n"),
-    ("constexpr int ", "n", 256, " = 1;", SYNTAX),
+    ("constexpr int ", "n", 256, " = 1;", LONG_NAME),
     // chains of 256 and 257 literals
     (
         "constexpr int a = 1",
@@ -242,6 +292,8 @@ const LIMITS: [(&str, &str, usize, &str, &str); 8] = [
     // the greatest length of a source, and one more
     (A, " ", MAX_SOURCE - 29, "", "pieces 1 refused 0\n"),
     (A, " ", MAX_SOURCE - 28, "", TOO_LONG),
+    // its length is told before what it has
+    ("", "@", MAX_SOURCE + 1, "", TOO_LONG),
 ];
 
 /// A code, a detail, whether the refusal was met in an evaluation, and its line at line 3 and column 19, in an evaluation
@@ -364,8 +416,9 @@ fn devices_fail(rt: HostRuntime) -> Result<(), Fail> {
     Ok(())
 }
 
-/// Three small sources with their reports: one without a refusal, one with a refused piece, one that is refused whole.
-const SMALL: [(&str, &str, u8); 3] = [
+/// Small sources with their reports: one without a refusal, one with a refused piece, two that are refused whole, and of
+/// these one by the lexer.
+const SMALL: [(&str, &str, u8); 4] = [
     (A, A_REPORT, 0),
     (
         "constexpr int a = 1 / 0;",
@@ -373,6 +426,7 @@ const SMALL: [(&str, &str, u8); 3] = [
         1,
     ),
     ("int a;", SYNTAX, 1),
+    ("a = @", "1:5: error L2: no token begins here\n", 1),
 ];
 
 // Run with each allocation refused in turn, this shows that a run ends with 5 or as ever, and the sink holds a front.
