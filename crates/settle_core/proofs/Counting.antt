@@ -10,7 +10,7 @@ use Rattle.settle_core.specs.Steps.{named}
 use Rattle.settle_core.specs.Sound.{IsSound, Sound}
 use Rattle.settle_core.specs.Bound.{sum_below, reads_of_all, idle}
 use Rattle.settle_core.proofs.Tasks.{front_length}
-use Rattle.settle_core.proofs.Moves.{bonus, spent}
+use Rattle.settle_core.proofs.Moves.{one_at_most, bonus, spent}
 use Rattle.settle_core.proofs.Keeping.{Parts, stays_settled, inside, at_step, elsewhere, moved}
 use Rattle.settle_core.proofs.Sums.{sum_grows, sum_grows_at, sum_thirds}
 
@@ -52,15 +52,11 @@ module _ {T O : Type 0} (m : Meant T O) where
         two true false = omega arith
         two false b = omega arith
 
-    one : (b : Bool) → cond b 1 0 ≤ 1
-    one true = omega arith
-    one false = omega arith
-
     spent_within : (p : PieceState O) → IsSound m s k p → spent m s k p ≤ 3 + 3 * length (reads m k)
     spent_within Fresh h = omega arith
     spent_within (Held worker taken mark) h = let n = front_length m k taken h.count h.within h.prefix in let w = h.within in
-        let b = bonus_small (length taken) (omega arith) in let f = one mark in omega arith
-    spent_within (Parked taken mark on) h = let n = front_length m k taken h.task.count h.task.within h.task.prefix in let w = h.has_next in let f = one mark in omega arith
+        let b = bonus_small (length taken) (omega arith) in let f = one_at_most mark in omega arith
+    spent_within (Parked taken mark on) h = let n = front_length m k taken h.task.count h.task.within h.task.prefix in let w = h.has_next in let f = one_at_most mark in omega arith
     spent_within (Settled o) h = omega arith
 
     spent_at_within : Sound m s → (p : Option (PieceState O)) → slice_get s k ≡ p → spent_at s k p ≤ 3 + 3 * length (reads m k)

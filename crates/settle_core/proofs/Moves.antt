@@ -11,6 +11,10 @@ use Rattle.settle_core.specs.Bound.{idle}
 use Rattle.settle_core.proofs.Options.{some_injective, none_is_no_some, from_map}
 use Rattle.settle_core.proofs.Tasks.{front_length, takes_more, is_advanced, next_cases}
 
+pub one_at_most : (b : Bool) → cond b 1 0 ≤ 1
+one_at_most true = omega arith
+one_at_most false = omega arith
+
 module _ {T O : Type 0} (m : Meant T O) (s : List (PieceState O)) where
   -- 2 for a task that has taken n reads and whose next read is settled
   abbrev pub bonus : ℕ → ℕ → ℕ
@@ -57,10 +61,6 @@ module _ {T O : Type 0} (m : Meant T O) (lawful : Lawful m) (next : ℕ → List
       few true false = omega arith
       few false true = omega arith
       few false false = omega arith
-
-  one_at_most : (b : Bool) → cond b 1 0 ≤ 1
-  one_at_most true = omega arith
-  one_at_most false = omega arith
 
   claims : (worker : ℕ) → Moved 0 Fresh (Held worker [] false)
   claims worker = record {

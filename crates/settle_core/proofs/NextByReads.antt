@@ -1,9 +1,10 @@
 -- The first read that was not taken is what comes next.
 use Rattle.std.proofs.Common.{◌≡◌, ◌≢◌, ℕ, zero, suc, ◌+◌, ◌<◌, ◌≤◌, List, [], ◌∷◌, ◌++◌, map, take, drop, length, get_or, Bool, true, false, if◌then◌else◌, ◌==◌, is_some, IsSome, Option, Some, None, refl, sym, ap, ◌∙◌, subst, arith}
 use Rattle.std.proofs.lemmas.Bool.{eq-eqb, eqb-true}
-use Rattle.std.proofs.lemmas.List.{drop_more, drop_all, take-append-drop}
+use Rattle.std.proofs.lemmas.List.{drop_more, drop_all, take-append-drop, get_or-take, length-take-le}
 use Rattle.settle_core.specs.Meant.{Meant, Lawful, outcome, reads}
-use Rattle.settle_core.specs.Next.{NextOf, Read, Ends, taken_outcome, firsts, IsNext, next_among, next_by_reads}
+use Rattle.settle_core.proofs.Options.{read_is}
+use Rattle.settle_core.specs.Next.{Read, taken_outcome, firsts, IsNext, next_among, next_by_reads}
 
 module _ {O : Type 0} (out : ℕ → O) where
   abbrev pairs : ℕ → List ℕ → List (ℕ × O)
@@ -34,13 +35,6 @@ module _ {O : Type 0} (ts : List (ℕ × O)) (o : O) where
   passes [] zs h = refl
   passes (y ∷ ys) zs h = ap (λ b. if b then next_among ts (ys ++ zs) o else Read (record { 0 = y })) (h 0 (omega arith)) ∙ passes ys zs (λ i l. h (suc i) (omega arith))
 
-  read_is : (i j : ℕ) → ◌≡◌ {A = NextOf O} (Read (record { 0 = i })) (Read (record { 0 = j })) → i ≡ j
-  read_is i j e = ap place e
-    where
-      place : NextOf O → ℕ
-      place (Read p) = p.0
-      place (Ends u) = 0
-
   -- what is read is one of the list that was not taken
   pub record Unread (xs : List ℕ) (j : ℕ) : Type 0 where
     pub place : ℕ
@@ -53,31 +47,21 @@ module _ {O : Type 0} (ts : List (ℕ × O)) (o : O) where
   unread (x ∷ xs) j e = by_case (taken_outcome ts x) refl (unread xs j) e
     where
       by_case : (p : Option O) → taken_outcome ts x ≡ p → (next_among ts xs o ≡ Read (record { 0 = j }) → Unread xs j) → (if is_some p then next_among ts xs o else Read (record { 0 = x })) ≡ Read (record { 0 = j }) → Unread (x ∷ xs) j
-      by_case None h rest e = let q : x ≡ j = read_is x j e in record { place = 0; within = omega arith; is = q; untaken = ap (taken_outcome ts) (sym q) ∙ h }
+      by_case None h rest e = let q : x ≡ j = read_is (record { 0 = x }) (record { 0 = j }) e in record { place = 0; within = omega arith; is = q; untaken = ap (taken_outcome ts) (sym q) ∙ h }
       by_case (Some u) h rest e = let r = rest e in record { place = suc r.place; within = (let w = r.within in omega arith); is = r.is; untaken = r.untaken }
 
 module _ {T O : Type 0} (m : Meant T O) (lawful : Lawful m) where
-  get_take : (xs : List ℕ) (n i : ℕ) → i < n → get_or (take n xs) i 0 ≡ get_or xs i 0
-  get_take xs zero i l = absurd (omega arith)
-  get_take [] (suc n) i l = refl
-  get_take (x ∷ xs) (suc n) zero l = refl
-  get_take (x ∷ xs) (suc n) (suc i) l = get_take xs n i (omega arith)
-
-  length_take : (xs : List ℕ) (n : ℕ) → length (take n xs) ≤ n
-  length_take xs zero = omega arith
-  length_take [] (suc n) = omega arith
-  length_take (x ∷ xs) (suc n) = let h = length_take xs n in omega arith
+  -- where the first n reads were taken, what comes next is among the others
+  after_firsts : (k n : ℕ) → n ≤ length (reads m k) → next_by_reads m k (firsts m k n) ≡ next_among (firsts m k n) (drop n (reads m k)) (outcome m k)
+  after_firsts k n w = let ts = firsts m k n in let xs = reads m k in
+      ap (λ ys. next_among ts ys (outcome m k)) (sym (take-append-drop n xs))
+      ∙ passes ts (outcome m k) (take n xs) (drop n xs) (λ i h. (let c = length-take-le n xs w in let l : i < n = omega arith in subst (λ (z : ℕ). IsSome (taken_outcome ts z)) (sym (get_or-take n xs i 0 l)) (taken_is (outcome m) xs n i l w)))
 
   pub is_next : IsNext m (next_by_reads m)
   is_next = record {
     untaken = λ k j taken l e. let u = unread taken (outcome m k) (reads m k) j e in (subst (λ (i : ℕ). i < k) u.is (lawful.below k u.place l u.within), u.untaken);
-    reads_next = λ k n l w. let ts = firsts m k n in let xs = reads m k in
-        ap (λ ys. next_among ts ys (outcome m k)) (sym (take-append-drop n xs))
-        ∙ passes ts (outcome m k) (take n xs) (drop n xs) (λ i h. (let c = length_take xs n in subst (λ (z : ℕ). IsSome (taken_outcome ts z)) (sym (get_take xs n i (omega arith))) (taken_is (outcome m) xs n i (omega arith) (omega arith))))
+    reads_next = λ k n l w. let ts = firsts m k n in let xs = reads m k in after_firsts k n (omega arith)
         ∙ ap (λ ys. next_among ts ys (outcome m k)) (drop_more xs n 0 w)
         ∙ ap (λ p. if is_some p then next_among ts (drop (n + 1) xs) (outcome m k) else Read (record { 0 = get_or xs n 0 })) (not_taken (outcome m) xs n (get_or xs n 0) (omega arith) (λ i h. lawful.once k i n l h w));
-    ends_with = λ k l. let xs = reads m k in let n = length xs in let ts = firsts m k n in
-        ap (λ ys. next_among ts ys (outcome m k)) (sym (take-append-drop n xs))
-        ∙ passes ts (outcome m k) (take n xs) (drop n xs) (λ i h. (let c = length_take xs n in subst (λ (z : ℕ). IsSome (taken_outcome ts z)) (sym (get_take xs n i (omega arith))) (taken_is (outcome m) xs n i (omega arith) (omega arith))))
-        ∙ ap (λ ys. next_among ts ys (outcome m k)) (drop_all n xs (omega arith));
+    ends_with = λ k l. let xs = reads m k in after_firsts k (length xs) (omega arith) ∙ ap (λ ys. next_among (firsts m k (length xs)) ys (outcome m k)) (drop_all (length xs) xs (omega arith));
   }

@@ -1,7 +1,7 @@
 -- Lists of steps.
-use Rattle.std.proofs.Common.{◌≡◌, ℕ, zero, suc, ◌+◌, ◌*◌, ◌<◌, ◌≤◌, List, [], ◌∷◌, length, drop, get_or, replicate, slice_get, IfSome, OnSome, Option, Some, None, refl, sym, ap, ◌∙◌, subst, arith}
+use Rattle.std.proofs.Common.{◌≡◌, ℕ, zero, suc, ◌+◌, ◌*◌, ◌<◌, ◌≤◌, List, [], ◌∷◌, length, drop, get_or, replicate, slice_get, IfSome, OnSome, Option, Some, None, sym, ap, ◌∙◌, subst, arith}
 use Rattle.std.specs.Option.{option_map, unwrap_or}
-use Rattle.std.proofs.lemmas.List.{drop_more, drop_all}
+use Rattle.std.proofs.lemmas.List.{drop_more, drop_all, length-replicate}
 use Rattle.settle_core.specs.Meant.{Meant, Lawful}
 use Rattle.settle_core.specs.Next.{NextOf, IsNext}
 use Rattle.settle_core.specs.State.{PieceState, Fresh, Parked, CoreStep, all_fresh}
@@ -22,12 +22,8 @@ module _ {T O : Type 0} (m : Meant T O) where
   fresh_each (suc n) zero p e = some_injective Fresh p e
   fresh_each (suc n) (suc k) p e = fresh_each n k p e
 
-  pub length_fresh : (n : ℕ) → length (all_fresh {O = O} n) ≡ n
-  length_fresh zero = refl
-  length_fresh (suc n) = ap suc (length_fresh n)
-
   pub fresh_sound : Sound m (all_fresh m.pieces)
-  fresh_sound = record { whole = length_fresh m.pieces; each = λ k p e. subst (IsSound m (all_fresh m.pieces) k) (fresh_each m.pieces k p e) tt }
+  fresh_sound = record { whole = length-replicate m.pieces Fresh; each = λ k p e. subst (IsSound m (all_fresh m.pieces) k) (fresh_each m.pieces k p e) tt }
 
 module _ {T O : Type 0} (m : Meant T O) (lawful : Lawful m) (next : ℕ → List (ℕ × O) → NextOf O) (law : IsNext m next) where
   pub step_sound : (s t : List (PieceState O)) (step : CoreStep) → stepped next s step ≡ Some t → Sound m s → Sound m t

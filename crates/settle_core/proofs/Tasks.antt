@@ -1,46 +1,29 @@
 -- Tasks: the first reads of a piece, and what comes next.
-use Rattle.std.proofs.Common.{◌≡◌, ◌⊎◌, ℕ, zero, suc, ◌<◌, ◌≤◌, List, [], ◌∷◌, ◌++◌, map, take, length, get_or, Bool, true, lt-ltb, refl, sym, ap, ◌∙◌, subst, arith, inl, inr, ⊎_elim}
+use Rattle.std.proofs.Common.{◌≡◌, ◌⊎◌, ℕ, suc, ◌<◌, ◌≤◌, List, [], ◌∷◌, ◌++◌, map, take, length, get_or, Bool, true, lt-ltb, sym, ap, ◌∙◌, subst, arith, inl, inr, ⊎_elim}
+use Rattle.std.proofs.Math.Seq.{take-suc}
+use Rattle.std.proofs.lemmas.List.{length-map, length-take-le, map-append}
 use mathlib.Core.Logic.{dite}
 use native.Mathlib.Decide.{dec_lt, ℕ_discrete}
 use Rattle.cxx_base.specs.declared.number.PieceNo.{PieceNo}
 use Rattle.settle_core.specs.Meant.{Meant, outcome, reads}
 use Rattle.settle_core.specs.Next.{NextOf, Read, Ends, firsts, IsNext}
 use Rattle.settle_core.specs.State.{PieceState, IsSettledAt}
+use Rattle.settle_core.proofs.Options.{read_is, read_is_no_end, end_is}
 use Rattle.settle_core.specs.Sound.{IsSoundTask}
-
-module _ {O : Type 0} (out : ℕ → O) where
-  one_more : (xs : List ℕ) (n : ℕ) → n < length xs → map {B = ℕ × O} (λ j. (j, out j)) (take (suc n) xs) ≡ map {B = ℕ × O} (λ j. (j, out j)) (take n xs) ++ (get_or xs n 0, out (get_or xs n 0)) ∷ []
-  one_more [] n l = absurd (omega arith)
-  one_more (x ∷ xs) zero l = refl
-  one_more (x ∷ xs) (suc n) l = ap {B = List (ℕ × O)} (λ t. (x, out x) ∷ t) (one_more xs n (omega arith))
-
-  length_firsts : (xs : List ℕ) (n : ℕ) → n ≤ length xs → length (map {B = ℕ × O} (λ j. (j, out j)) (take n xs)) ≡ n
-  length_firsts xs zero l = refl
-  length_firsts [] (suc n) l = absurd (omega arith)
-  length_firsts (x ∷ xs) (suc n) l = ap suc (length_firsts xs n (omega arith))
 
 -- the first n reads of the piece k were taken
 module _ {T O : Type 0} (m : Meant T O) (k : ℕ) (taken : List (ℕ × O)) (n : ℕ) (within : n ≤ length (reads m k)) (prefix : taken ≡ firsts m k n) where
   pub front_length : length taken ≡ n
-  front_length = ap length prefix ∙ length_firsts (outcome m) (reads m k) n within
+  front_length = ap length prefix ∙ length-map (take n (reads m k)) (λ j. (j, outcome m j)) ∙ length-take-le n (reads m k) within
 
   pub front_more : n < length (reads m k) → taken ++ (get_or (reads m k) n 0, outcome m (get_or (reads m k) n 0)) ∷ [] ≡ firsts m k (suc n)
-  front_more l = ap (λ ts. ts ++ (get_or (reads m k) n 0, outcome m (get_or (reads m k) n 0)) ∷ []) prefix ∙ sym (one_more (outcome m) (reads m k) n l)
+  front_more l = ap (λ ts. ts ++ (get_or (reads m k) n 0, outcome m (get_or (reads m k) n 0)) ∷ []) prefix ∙ sym (ap (map (λ j. (j, outcome m j))) (take-suc (reads m k) n 0 l) ∙ map-append (λ j. (j, outcome m j)) (take n (reads m k)) (get_or (reads m k) n 0 ∷ []))
 
   module _ (next : ℕ → List (ℕ × O) → NextOf O) (law : IsNext m next) (inside : k < m.pieces) where
     pub next_cases : ((next k taken ≡ Read (record { 0 = get_or (reads m k) n 0 })) × (n < length (reads m k))) ⊎ ((next k taken ≡ Ends (outcome m k)) × (n ≡ length (reads m k)))
     next_cases = dite (dec_lt n (length (reads m k)))
         (λ (l : n < length (reads m k)). inl (ap (next k) prefix ∙ law.reads_next k n inside l, l))
         (λ (l : n < length (reads m k) → ⊥). let e : n ≡ length (reads m k) = omega arith in inr (ap (next k) prefix ∙ ap (λ i. next k (firsts m k i)) e ∙ law.ends_with k inside, e))
-
-    read_is : (p q : PieceNo) → ◌≡◌ {A = NextOf O} (Read p) (Read q) → p.0 ≡ q.0
-    read_is p q e = cc
-
-    read_is_no_end : (p : PieceNo) (o : O) → ◌≡◌ {A = NextOf O} (Read p) (Ends o) → ⊥
-    read_is_no_end p o e = cc
-
-    end_is : (o u : O) → ◌≡◌ {A = NextOf O} (Ends o) (Ends u) → o ≡ u
-    end_is o u e = cc
 
     pub reads_if : (j : PieceNo) → next k taken ≡ Read j → (j.0 ≡ get_or (reads m k) n 0) × (n < length (reads m k))
     reads_if j e = ⊎_elim (λ r. (read_is j (record { 0 = get_or (reads m k) n 0 }) (sym e ∙ r.0), r.1)) (λ r. absurd (read_is_no_end j (outcome m k) (sym e ∙ r.0))) next_cases

@@ -36,7 +36,8 @@ pub(crate) fn moved<M: Played>(
 }
 
 fn claim<O: Drop>(alloc: Global, worker: u32, piece: PieceState<O>) -> Option<PieceState<O>>
-    ensures { (next : ℕ → List (ℕ × O) → NextOf O) (s : List (PieceState O)) (k : _) → result ≡ made next s (Claim k worker) piece }
+    ensures { (next : ℕ → List (ℕ × O) → NextOf O) (s : List (PieceState O)) (k : _) →
+        result ≡ made next s (Claim k worker) piece }
 {
     let PieceState::Fresh = piece else {
         return None;
@@ -94,7 +95,8 @@ fn park<M: Played>(
     piece: PieceState<M::Outcome>,
 ) -> Result<Option<PieceState<M::Outcome>>, Memory>
     requires { k.0 < (M.meant meaning.now).pieces }
-    ensures { IfOk result (λ after. (s : List (PieceState M.Outcome)) → after ≡ made (M.next_of meaning.now) s (Park k on) piece) }
+    ensures { IfOk result (λ after. (s : List (PieceState M.Outcome)) →
+        after ≡ made (M.next_of meaning.now) s (Park k on) piece) }
 {
     let PieceState::Held {
         taken,
@@ -119,7 +121,8 @@ fn resume<M: Meaning>(
     worker: u32,
     piece: PieceState<M::Outcome>,
 ) -> Option<PieceState<M::Outcome>>
-    ensures { (next : ℕ → List (ℕ × M.Outcome) → NextOf M.Outcome) (k : _) → result ≡ made next state.now (Resume k worker) piece }
+    ensures { (next : ℕ → List (ℕ × M.Outcome) → NextOf M.Outcome) (k : _) →
+        result ≡ made next state.now (Resume k worker) piece }
 {
     let PieceState::Parked {
         taken,
@@ -144,7 +147,8 @@ fn settle<M: Played>(
     piece: PieceState<M::Outcome>,
 ) -> Result<Option<PieceState<M::Outcome>>, Memory>
     requires { k.0 < (M.meant meaning.now).pieces }
-    ensures { IfOk result (λ after. (s : List (PieceState M.Outcome)) → after ≡ made (M.next_of meaning.now) s (Settle k) piece) }
+    ensures { IfOk result (λ after. (s : List (PieceState M.Outcome)) →
+        after ≡ made (M.next_of meaning.now) s (Settle k) piece) }
 {
     let PieceState::Held {
         taken,

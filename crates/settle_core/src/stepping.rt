@@ -23,8 +23,10 @@ pub fn step<M: Played>(
 ) -> Result<Option<CoreState<M>>, Memory>
     requires { length state ≡ (M.meant meaning.now).pieces }
     ensures exact { IfOk result (λ after. after ≡ stepped (M.next_of meaning.now) state next) }
-    ensures whole { IfOk result (λ after. IfSome after (λ s. length s ≡ (M.meant meaning.now).pieces)) }
-    ensures sound { IfOk result (λ after. IfSome after (λ s. Sound (M.meant meaning.now) state → Sound (M.meant meaning.now) s)) }
+    ensures whole { IfOk result (λ after.
+        IfSome after (λ s. length s ≡ (M.meant meaning.now).pieces)) }
+    ensures sound { IfOk result (λ after.
+        IfSome after (λ s. Sound (M.meant meaning.now) state → Sound (M.meant meaning.now) s)) }
 {
     let Some(piece) = state.take(next.piece()) else {
         return Ok(None);
@@ -45,11 +47,13 @@ pub fn replay<M: Played>(
     meaning: &M,
     steps: &[CoreStep],
 ) -> Result<Option<CoreState<M>>, Memory>
-    ensures exact { IfOk result (λ after. after ≡ replayed (M.next_of meaning.now) (all_fresh (M.meant meaning.now).pieces) steps.now) }
+    ensures exact { IfOk result (λ after.
+        after ≡ replayed (M.next_of meaning.now) (all_fresh (M.meant meaning.now).pieces) steps.now) }
     ensures sound { IfOk result (λ after. IfSome after (Sound (M.meant meaning.now))) }
     ensures fold { IfOk result (λ after. IfSome after (SettlesFold (M.meant meaning.now))) }
     ensures earliest { IfOk result (λ after. IfSome after EarliestGoesOn) }
-    ensures bound { IfOk result (λ after. OnSome after (IsWithinBound (M.meant meaning.now) (M.next_of meaning.now) steps.now)) }
+    ensures bound { IfOk result (λ after.
+        OnSome after (IsWithinBound (M.meant meaning.now) (M.next_of meaning.now) steps.now)) }
 {
     let mut state = CoreState::fresh(alloc, meaning)?;
     for next in steps {
