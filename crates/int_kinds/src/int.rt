@@ -82,6 +82,7 @@ impl<const BITS: u32, const SIGNED: u32> Int<BITS, SIGNED> {
             low - (1 << BITS)
         }
     }
+
     // What is kept of an exact result: a number of the width, or `Overflow`; without sign, the number modulo 2^BITS.
     fn keep(exact: i128) -> Result<i128, ArithFault>
         requires some_bits { 0 < BITS }
