@@ -1,3 +1,4 @@
+pub mod BitLaws
 pub mod Digits
 pub mod Division
 pub mod DivisionLaws

@@ -1,3 +1,4 @@
+pub mod BitFacts
 pub mod Bits
 pub mod Convert
 pub mod Division

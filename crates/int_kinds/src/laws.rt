@@ -1,5 +1,6 @@
 //! Laws: what the standard says of the definitions that the contracts cite, proved of them. Each function does nothing, and
 //! a call of it gives its caller the law.
+ghost use Rattle.int_kinds.specs.BitFacts.{BitsAreJoined};
 ghost use Rattle.int_kinds.specs.Division.{DivisionIsWhole, RefusesOnlyBeyondRange};
 ghost use Rattle.int_kinds.specs.Literal.{NoKindBeyond};
 ghost use Rattle.int_kinds.specs.Unary.{ComplementIsBelow, NegateOverflowsAtLeast};
@@ -31,6 +32,12 @@ pub fn negate_overflows_at_least()
 /// and of the greatest value ([expr.unary.op]).
 pub fn complement_is_below()
     ensures { ComplementIsBelow }
+{}
+
+/// Each bit of what `&`, `|`, `^` and `~` give comes from the bits of the sides at its place, in two's complement
+/// ([expr.bit.and], [expr.or], [expr.xor], [expr.unary.op]).
+pub fn bits_are_joined()
+    ensures { BitsAreJoined }
 {}
 
 /// No kind holds a literal of more than 64 bits, whatever its base and suffix ([lex.icon]).

@@ -19,8 +19,8 @@ pub use fault::ArithFault;
 pub use int::Int;
 pub use kind::{greatest, is_in_range, least};
 pub use laws::{
-    complement_is_below, division_is_whole, negate_overflows_at_least, no_kind_beyond,
-    refuses_only_beyond_range, wrap_is_the_member,
+    bits_are_joined, complement_is_below, division_is_whole, negate_overflows_at_least,
+    no_kind_beyond, refuses_only_beyond_range, wrap_is_the_member,
 };
 pub use literal::literal_kind;
 pub use operate::{apply, compare, complement, convert, negate};
