@@ -197,7 +197,7 @@ module _ (words : List (Bor Text)) (by_first : List (Bor (List ℕ))) (text : Ch
 
 -- ---- a punctuator has a character at least
 
-longer_least : (first : Punctuator) (rest : Option Punctuator) → first.length ≤ (longer first rest).length
+pub longer_least : (first : Punctuator) (rest : Option Punctuator) → first.length ≤ (longer first rest).length
 longer_least first None = omega arith
 longer_least first (Some other) = by (ltb first.length other.length) refl
   where

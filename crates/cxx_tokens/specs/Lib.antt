@@ -4,6 +4,7 @@ pub mod Gaps
 pub mod Gives
 pub mod Lex
 pub mod Literals
+pub mod Munch
 pub mod Punctuators
 pub mod Search
 pub mod Tables

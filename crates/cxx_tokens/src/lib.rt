@@ -17,7 +17,7 @@ mod value;
 mod word;
 
 pub use fault::LexFault;
-pub use laws::numbers_are_places;
+pub use laws::{numbers_are_places, tokens_are_longest};
 pub use lexing::tokens;
 pub use punctuator::{EQUAL, MINUS, PERCENT, PLUS, SEMICOLON, SLASH, STAR};
 pub use token::{Token, TokenKind, Tokens};

@@ -1,6 +1,6 @@
 //! Texts with their tokens, and texts with their faults.
 use crate::punctuator::PUNCTUATORS;
-use crate::{LexFault, TokenKind, numbers_are_places, tokens};
+use crate::{LexFault, TokenKind, numbers_are_places, tokens, tokens_are_longest};
 use cxx_base::{Name, Names, Place, Span};
 use std::alloc::{AllocError, Global};
 use std::test::Fail;
@@ -34,6 +34,7 @@ fn shown(alloc: Global, names: &Names, kind: &TokenKind) -> Result<String, Alloc
 #[test]
 fn reads_kinds(rt: HostRuntime) -> Result<(), Fail> {
     numbers_are_places();
+    tokens_are_longest();
     let table: [(&str, &str); 24] = [
         ("", ""),
         ("\u{feff}", ""),
