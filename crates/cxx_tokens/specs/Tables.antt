@@ -1,8 +1,8 @@
 -- The lists by which words and punctuators are numbered.
-use Rattle.std.specs.Prelude.{◌≡◌, List, [], ◌∷◌, Some, slice_get, codes}
+use Rattle.std.specs.Prelude.{◌≡◌, ℕ, List, [], ◌∷◌, Some, slice_get, codes, map}
 use Rattle.cxx_base.specs.Texts.{Text}
-use Rattle.cxx_tokens.specs.declared.punctuator.TheConstants.{SEMICOLON, PLUS, MINUS, STAR, SLASH, PERCENT, EQUAL}
-use Rattle.cxx_tokens.specs.declared.word.TheConstants.{CONSTEXPR, INT}
+use Rattle.cxx_tokens.specs.declared.mark.TheConstants as mark
+use Rattle.cxx_tokens.specs.declared.keyword.TheConstants as keyword
 
 -- the words that are never identifiers: the keywords ([lex.key]), and the alternative spellings of operators ([lex.digraph])
 unfoldable pub words : List Text
@@ -34,14 +34,44 @@ punctuators =
     codes "&&" ∷ codes "||" ∷ codes "++" ∷ codes "--" ∷ codes "+=" ∷ codes "-=" ∷ codes "*=" ∷ codes "/=" ∷
     codes "%=" ∷ codes "^=" ∷ codes "&=" ∷ codes "|=" ∷ codes "<<=" ∷ codes ">>=" ∷ []
 
--- the numbers that have a name in the code
+-- The numbers that have a name in the code, each with the text that it stands for.
+unfoldable pub numbered_marks : List (ℕ × Text)
+numbered_marks =
+    (mark.LEFT_BRACE, codes "{") ∷ (mark.RIGHT_BRACE, codes "}") ∷ (mark.LEFT_BRACKET, codes "[") ∷
+    (mark.RIGHT_BRACKET, codes "]") ∷ (mark.LEFT_SPLICE, codes "[:") ∷ (mark.RIGHT_SPLICE, codes ":]") ∷
+    (mark.LEFT_PAREN, codes "(") ∷ (mark.RIGHT_PAREN, codes ")") ∷ (mark.SEMICOLON, codes ";") ∷
+    (mark.COLON, codes ":") ∷ (mark.SCOPE, codes "::") ∷ (mark.COMMA, codes ",") ∷ (mark.DOT, codes ".") ∷
+    (mark.QUESTION, codes "?") ∷ (mark.ARROW, codes "->") ∷ (mark.PLUS, codes "+") ∷ (mark.MINUS, codes "-") ∷
+    (mark.STAR, codes "*") ∷ (mark.SLASH, codes "/") ∷ (mark.PERCENT, codes "%") ∷ (mark.CARET, codes "^") ∷
+    (mark.REFLECT, codes "^^") ∷ (mark.AMPERSAND, codes "&") ∷ (mark.PIPE, codes "|") ∷ (mark.TILDE, codes "~") ∷
+    (mark.NOT, codes "!") ∷ (mark.EQUAL, codes "=") ∷ (mark.LESS, codes "<") ∷ (mark.GREATER, codes ">") ∷
+    (mark.LESS_EQUAL, codes "<=") ∷ (mark.GREATER_EQUAL, codes ">=") ∷ (mark.EQUAL_EQUAL, codes "==") ∷
+    (mark.NOT_EQUAL, codes "!=") ∷ (mark.SHIFT_LEFT, codes "<<") ∷ (mark.SHIFT_RIGHT, codes ">>") ∷
+    (mark.AND, codes "&&") ∷ (mark.OR, codes "||") ∷ (mark.INCREMENT, codes "++") ∷ (mark.DECREMENT, codes "--") ∷
+    (mark.PLUS_EQUAL, codes "+=") ∷ (mark.MINUS_EQUAL, codes "-=") ∷ (mark.STAR_EQUAL, codes "*=") ∷
+    (mark.SLASH_EQUAL, codes "/=") ∷ (mark.PERCENT_EQUAL, codes "%=") ∷ (mark.CARET_EQUAL, codes "^=") ∷
+    (mark.AMPERSAND_EQUAL, codes "&=") ∷ (mark.PIPE_EQUAL, codes "|=") ∷ (mark.SHIFT_LEFT_EQUAL, codes "<<=") ∷
+    (mark.SHIFT_RIGHT_EQUAL, codes ">>=") ∷ []
+
+unfoldable pub numbered_words : List (ℕ × Text)
+numbered_words =
+    (keyword.BOOL, codes "bool") ∷ (keyword.BREAK, codes "break") ∷ (keyword.CHAR, codes "char") ∷
+    (keyword.CLASS, codes "class") ∷ (keyword.CONST, codes "const") ∷ (keyword.CONSTEVAL, codes "consteval") ∷
+    (keyword.CONSTEXPR, codes "constexpr") ∷ (keyword.CONTINUE, codes "continue") ∷
+    (keyword.DELETE, codes "delete") ∷ (keyword.ELSE, codes "else") ∷ (keyword.ENUM, codes "enum") ∷
+    (keyword.EXPLICIT, codes "explicit") ∷ (keyword.FALSE, codes "false") ∷ (keyword.FOR, codes "for") ∷
+    (keyword.IF, codes "if") ∷ (keyword.INLINE, codes "inline") ∷ (keyword.INT, codes "int") ∷
+    (keyword.LONG, codes "long") ∷ (keyword.NAMESPACE, codes "namespace") ∷ (keyword.NEW, codes "new") ∷
+    (keyword.NOEXCEPT, codes "noexcept") ∷ (keyword.NULLPTR, codes "nullptr") ∷
+    (keyword.PRIVATE, codes "private") ∷ (keyword.PROTECTED, codes "protected") ∷
+    (keyword.PUBLIC, codes "public") ∷ (keyword.RETURN, codes "return") ∷ (keyword.SHORT, codes "short") ∷
+    (keyword.SIGNED, codes "signed") ∷ (keyword.SIZEOF, codes "sizeof") ∷ (keyword.STATIC, codes "static") ∷
+    (keyword.STATIC_ASSERT, codes "static_assert") ∷ (keyword.STATIC_CAST, codes "static_cast") ∷
+    (keyword.STRUCT, codes "struct") ∷ (keyword.THIS, codes "this") ∷ (keyword.TRUE, codes "true") ∷
+    (keyword.TYPENAME, codes "typename") ∷ (keyword.UNSIGNED, codes "unsigned") ∷ (keyword.USING, codes "using") ∷
+    (keyword.VOID, codes "void") ∷ (keyword.WHILE, codes "while") ∷ []
+
+-- each number is the place of its text in the list
 pub record AreNumbered : Type 0 where
-  pub constexpr : slice_get words CONSTEXPR ≡ Some (codes "constexpr")
-  pub int : slice_get words INT ≡ Some (codes "int")
-  pub semicolon : slice_get punctuators SEMICOLON ≡ Some (codes ";")
-  pub plus : slice_get punctuators PLUS ≡ Some (codes "+")
-  pub minus : slice_get punctuators MINUS ≡ Some (codes "-")
-  pub star : slice_get punctuators STAR ≡ Some (codes "*")
-  pub slash : slice_get punctuators SLASH ≡ Some (codes "/")
-  pub percent : slice_get punctuators PERCENT ≡ Some (codes "%")
-  pub equal : slice_get punctuators EQUAL ≡ Some (codes "=")
+  pub marks : map (λ n. slice_get punctuators n.0) numbered_marks ≡ map (λ n. Some n.1) numbered_marks
+  pub keywords : map (λ n. slice_get words n.0) numbered_words ≡ map (λ n. Some n.1) numbered_words

@@ -4,7 +4,7 @@ ghost use Rattle.cxx_tokens.specs.Munch.{LongestAtItsPlace};
 ghost use Rattle.cxx_tokens.specs.Tables.{AreNumbered};
 
 /// The numbers of words and punctuators that have a name here are their places in the lists.
-#[tactic(auto, unfolding(crate::specs::Tables::words, crate::specs::Tables::punctuators))]
+#[tactic(auto, unfolding(crate::specs::Tables::words, crate::specs::Tables::punctuators, crate::specs::Tables::numbered_words, crate::specs::Tables::numbered_marks))]
 pub fn numbers_are_places()
     ensures { AreNumbered }
 {}

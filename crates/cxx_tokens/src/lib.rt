@@ -6,8 +6,10 @@ mod escape;
 mod fault;
 mod gap;
 mod integer;
+pub mod keyword;
 mod laws;
 mod lexing;
+pub mod mark;
 mod punctuator;
 mod quoted;
 mod run;
@@ -19,9 +21,7 @@ mod word;
 pub use fault::LexFault;
 pub use laws::{numbers_are_places, tokens_are_longest};
 pub use lexing::tokens;
-pub use punctuator::{EQUAL, MINUS, PERCENT, PLUS, SEMICOLON, SLASH, STAR};
 pub use token::{Token, TokenKind, Tokens};
-pub use word::{CONSTEXPR, INT};
 
 #[cfg(test)]
 mod tests;

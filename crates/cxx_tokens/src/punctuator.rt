@@ -8,6 +8,7 @@ ghost use Rattle.cxx_tokens.specs.Punctuators as spec;
 ghost use Rattle.cxx_tokens.specs.Words.{AreBelow};
 ghost use Rattle.cxx_tokens.specs.declared.punctuator.TheConstants.{PUNCTUATORS, BY_FIRST};
 
+use crate::mark::LEFT_BRACKET;
 use crate::text::{Cut, first, first_is, strip};
 
 /// The punctuators, in the order in which they are numbered.
@@ -17,30 +18,6 @@ pub const PUNCTUATORS: [&[u8]; 49] = [
     b">=", b"==", b"!=", b"<<", b">>", b"&&", b"||", b"++", b"--", b"+=", b"-=", b"*=", b"/=",
     b"%=", b"^=", b"&=", b"|=", b"<<=", b">>=",
 ];
-
-/// `[`
-pub const LEFT_BRACKET: u32 = 2;
-
-/// `;`
-pub const SEMICOLON: u32 = 8;
-
-/// `+`
-pub const PLUS: u32 = 15;
-
-/// `-`
-pub const MINUS: u32 = 16;
-
-/// `*`
-pub const STAR: u32 = 17;
-
-/// `/`
-pub const SLASH: u32 = 18;
-
-/// `%`
-pub const PERCENT: u32 = 19;
-
-/// `=`
-pub const EQUAL: u32 = 26;
 
 // The numbers of the punctuators that begin with each ASCII character.
 const BY_FIRST: [&[u32]; 128] = [

@@ -1,5 +1,7 @@
 //! Tokens.
 
+ghost use Rattle.std.specs.Prelude.{◌<◌, ◌^◌, length};
+
 use cxx_base::{Bytes, Name, Place, Span};
 use sqlite_items::Items;
 
@@ -33,9 +35,10 @@ pub struct Token {
     pub span: Span,
 }
 
-/// The tokens of a text, and the place just past its last character.
+/// The tokens of a text, and the place just past its last character. There are so few that a `u32` numbers them.
 #[derive(Debug, Drop)]
 pub struct Tokens {
     pub list: Items<Token>,
     pub end: Place,
+    pub ghost short: { length list < 2 ^ 32 },
 }

@@ -102,12 +102,6 @@ pub const WORDS: [&[u8]; 93] = [
     b"xor_eq",
 ];
 
-/// `constexpr`
-pub const CONSTEXPR: u32 = 17;
-
-/// `int`
-pub const INT: u32 = 42;
-
 // The places of the words of each length, from 0 on.
 const BY_LENGTH: [&[u32]; 17] = [
     &[],

@@ -9,8 +9,8 @@ use Rattle.int_kinds.specs.Kind.{has_value}
 use Rattle.cxx_tokens.specs.declared.token.Token.{Token}
 use Rattle.cxx_tokens.specs.declared.token.TokenKind.{TokenKind}
 use Rattle.cxx_tokens.specs.declared.token.TokenKind.TheVariants as kind
-use Rattle.cxx_tokens.specs.declared.punctuator.TheConstants.{SEMICOLON, PLUS, MINUS, STAR, SLASH, PERCENT, EQUAL}
-use Rattle.cxx_tokens.specs.declared.word.TheConstants.{CONSTEXPR, INT}
+use Rattle.cxx_tokens.specs.declared.mark.TheConstants.{SEMICOLON, PLUS, MINUS, STAR, SLASH, PERCENT, EQUAL}
+use Rattle.cxx_tokens.specs.declared.keyword.TheConstants.{CONSTEXPR, INT}
 use Rattle.reflect_cli.specs.declared.cxx_tree.Arithmetic.{Arithmetic}
 use Rattle.reflect_cli.specs.declared.cxx_tree.Arithmetic.TheVariants as arithmetic
 use Rattle.reflect_cli.specs.declared.cxx_tree.Literal.{Literal}

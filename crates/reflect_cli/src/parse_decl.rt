@@ -6,7 +6,9 @@ ghost use Rattle.reflect_cli.specs.Grammar as spec;
 
 use crate::cxx_tree::Declaration;
 use crate::parse_expr::{ParseFault, identifier_at, punctuator_at, sum_at, word_at};
-use cxx_tokens::{CONSTEXPR, EQUAL, INT, SEMICOLON, Token};
+use cxx_tokens::Token;
+use cxx_tokens::keyword::{CONSTEXPR, INT};
+use cxx_tokens::mark::{EQUAL, SEMICOLON};
 use sqlite_items::Items;
 use std::alloc::Global;
 

@@ -6,7 +6,8 @@ ghost use Rattle.reflect_cli.specs.Grammar as spec;
 
 use crate::cxx_tree::{Arithmetic, Chain, Link, Literal, Product, Sum};
 use cxx_base::{Name, Place};
-use cxx_tokens::{MINUS, PERCENT, PLUS, SLASH, STAR, Token, TokenKind};
+use cxx_tokens::mark::{MINUS, PERCENT, PLUS, SLASH, STAR};
+use cxx_tokens::{Token, TokenKind};
 use sqlite_items::Items;
 use std::alloc::{AllocError, Global};
 
