@@ -1,0 +1,19 @@
+//! Identifiers and names.
+
+use cxx_base::{Name, Span};
+use sqlite_items::Items;
+
+/// An identifier in the source ([lex.name]), with its token.
+#[derive(Clone, Copy, Debug, PartialEq, Eq)]
+pub struct Identifier {
+    pub span: Span,
+    pub name: Name,
+}
+
+/// A name ([expr.prim.id]): whether `::` begins it, and its parts, of which there is at least one.
+#[derive(Drop)]
+pub struct NameTree {
+    pub span: Span,
+    pub rooted: bool,
+    pub parts: Items<Identifier>,
+}
