@@ -1,0 +1,9 @@
+pub mod Turns
+pub mod Factor
+pub mod Starts
+pub mod Forward
+pub mod Rises
+pub mod Always
+pub mod Choices
+pub mod Needs
+pub mod Bounds

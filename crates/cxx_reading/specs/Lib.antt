@@ -1,0 +1,5 @@
+pub mod Reading
+pub mod Any
+pub mod Extents
+pub mod Readers
+pub mod Laws

@@ -1,0 +1,23 @@
+//! How a grammar is written, and the steps over single tokens with which its parsers are. The crate knows no grammar.
+#![tactic(auto)]
+
+mod any;
+mod fault;
+mod laws;
+mod longest;
+mod seen;
+mod step;
+
+pub use any::{any_punctuator, any_word};
+pub use fault::Fault;
+pub use laws::{
+    choices_take_the_longest, missing_parts_are_no_fault, repetitions_end_by_themselves,
+};
+pub use longest::longer;
+pub use seen::{Seen, kind_ahead, kind_at, sees, sees_identifier, sees_word};
+pub use step::{
+    character, eat, eat_word, expect, expect_word, identifier, integer, left, span, text,
+};
+
+#[cfg(test)]
+mod tests;
