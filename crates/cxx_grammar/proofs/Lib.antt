@@ -1,0 +1,13 @@
+pub mod Levels
+pub mod Begins
+pub mod TypeArms
+pub mod Tables
+pub mod Shallow
+pub mod Forwards
+pub mod Ends
+pub mod JoinedForms
+pub mod PrimaryArms
+pub mod SuffixArms
+pub mod Chains
+pub mod UnaryArms
+pub mod SizedForms

@@ -1,0 +1,12 @@
+pub mod Names
+pub mod Fundamentals
+pub mod Types
+pub mod Lists
+pub mod Primaries
+pub mod Postfixes
+pub mod Operators
+pub mod Unaries
+pub mod Expressions
+pub mod Read
+pub mod Rules
+pub mod Joined
