@@ -1,0 +1,16 @@
+//! Parsers of primary and postfix expressions, each exactly as the grammar says.
+//!
+//! Forms that share a beginning are read once: what stands behind a name, a fundamental type or a splice tells which form
+//! it is.
+#![tactic(auto)]
+
+mod atoms;
+mod brackets;
+mod init;
+mod made;
+mod primaries;
+mod reader;
+mod suffixes;
+
+pub use made::typename_made;
+pub use reader::PrimaryReader;
