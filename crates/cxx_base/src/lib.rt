@@ -1,5 +1,5 @@
 //! What every layer of the translator speaks of: names and their numbers, places and spans in a source text, bytes,
-//! limits and step counts, kinds and operators of whole numbers, and refusals.
+//! limits and step counts, kinds and operators of whole numbers, lists of outcomes, and refusals.
 #![tactic(auto)]
 
 mod bytes;
@@ -9,6 +9,7 @@ mod memory;
 mod names;
 mod number;
 mod operator;
+mod outcome_list;
 mod place;
 mod refusal;
 mod ticks;
@@ -19,6 +20,7 @@ pub use memory::Memory;
 pub use names::{Name, Names};
 pub use number::{EntityNo, PieceNo, ScopeNo};
 pub use operator::{CompareOp, IntKind, IntOp};
+pub use outcome_list::OutcomeList;
 pub use place::{Place, Span};
 pub use refusal::{Code, Refusal};
 pub use ticks::Ticks;

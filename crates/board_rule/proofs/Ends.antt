@@ -1,0 +1,170 @@
+-- The stores that end a hold or a loan: settle, park, give back.
+use Rattle.std.proofs.Common.{◌≡◌, ◌≢◌, ◌⊎◌, ℕ, ◌+◌, ◌-◌, ◌<◌, ◌≤◌, ltb, lt-ltb, List, [], ◌∷◌, length, set, sym, refl, ap, ◌∙◌, subst, arith, true, cond, inl, inr, ⊎_elim, Some, None, length-set, get_or-set_same, get_or-set_other}
+use mathlib.Core.Option.{some, none}
+use lib.ListN.{get_elem?}
+use Rattle.atomic_table.specs.Table.{State, step, gives, Allows}
+use Rattle.atomic_table.proofs.Lists.{set_here, set_else}
+use Rattle.settle_core.specs.Meant.{Meant, Lawful, outcome, reads}
+use Rattle.board_rule.specs.Maps.{is_it, IsAmong}
+use Rattle.board_rule.specs.Stages.{Stage, worked, waiting, ended, Reached}
+use Rattle.board_rule.specs.Standing.{Standing, held, parked, settled, lent, IsSettled, held_by, lent_to, next_read, word_of, home_of, steps_of, stage_of, IsSound}
+use Rattle.board_rule.specs.Views.{hold_on, without, with_hand, after_settle, after_park, after_give_back}
+use Rattle.board_rule.specs.Rule.{work, OneState}
+use Rattle.board_rule.specs.Plays.{gave_back, settled as settles_view, parked as parks_view, CanPark}
+use Rattle.board_rule.specs.declared.home.Home.{Home}
+use Rattle.board_rule.specs.declared.home.Home.TheVariants.{Empty, Task, Outcome}
+use Rattle.board_rule.specs.declared.view.Hold.{Hold}
+use Rattle.board_rule.specs.declared.view.Key.{Key}
+use Rattle.board_rule.specs.declared.view.View.{View}
+use Rattle.board_rule.proofs.Maps.{same_no, hold_gone, hold_kept, at_length}
+use Rattle.board_rule.proofs.Standings.{IsFree, settled_ended, some_but}
+use Rattle.board_rule.proofs.Machine.{with_here, with_same, to_end, to_wait, still}
+use Rattle.board_rule.proofs.Moves.{Change, moves, spent_within}
+use Rattle.board_rule.proofs.Knowing.{one_key}
+use Rattle.board_rule.proofs.Slots.{held_in_hand, lent_in_hand}
+
+module _ {X T O : Type 0} (meant : X → Meant T O) (key : Key X) where
+  abbrev m : Meant T O
+  m = meant key.meaning
+
+  -- A held piece, whose slot is in hand, becomes p', which no seat has. The view after it is w
+  module _ (id k : ℕ) (v w : View X) (inside : k < m.pieces) (some_share : 0 < v.share) where
+    pub record Ended (h : Hold) (p' : Standing T) : Type 0 where
+      pub held : w.held ≡ without k v.held
+      pub lent : w.lent ≡ v.lent
+      pub hand : w.hand ≡ None
+      pub seen : (j : ℕ) → IsAmong j w.seen → IsAmong j v.seen ⊎ ((j ≡ k) × IsSettled p')
+      pub marks : (w.stopped ≡ v.stopped) × (w.saw_stop ≡ v.saw_stop)
+      pub share : w.share ≡ v.share
+      pub spent : w.spent + h.steps ≡ v.spent + steps_of m k p'
+      pub free : IsFree p'
+
+    ending : (s : State (Home T O) (View X)) (r : OneState meant key s) → get_elem? s.views id ≡ some v → (h : Hold) (p' : Standing T) (word : ℕ) (y : Home T O)
+        → v.hand ≡ Some k → r.at k ≡ held id h true → word ≡ word_of m k p' → some y ≡ home_of m k p' → IsSound m r.at k p' → Ended h p'
+        → (Reached m (λ j. stage_of m (r.at j)) → (g : ℕ → Stage) → g k ≡ stage_of m p' → ((j : ℕ) → j ≢ k → g j ≡ stage_of m (r.at j)) → Reached m g)
+        → Change meant key s r.at k id v w (held id h true) p' (set s.words k word) (set s.homes k (some y))
+    ending s r seat h p' word y full was is home sound d leads = let mine = r.views id v seat in record {
+      was = was;
+      inside = inside;
+      seat = seat;
+      words_long = length-set s.words k word;
+      word = get_or-set_same s.words k word 0 (let l = r.wide in omega arith) ∙ is;
+      words_else = λ j n. get_or-set_other s.words k j word 0 n;
+      homes_long = length-set s.homes k (some y);
+      home = set_here s.homes k (some y) (let l = r.deep in omega arith) ∙ ap some home;
+      homes_else = λ j n. set_else s.homes k j (some y) n;
+      stays = λ z. absurd z;
+      sound = sound;
+      others = λ j n. (d.free.0 j ∙ sym (ap (λ b. cond b (Some h) None) (same_no id j (λ q. n (sym q)))), d.free.1 j, d.free.2 j ∙ sym (same_no id j (λ q. n (sym q))));
+      below = d.free.3 (length s.views);
+      held_here = ap (hold_on k) d.held ∙ (hold_gone k v.held ∙ sym (d.free.0 id));
+      held_else = λ j n. ap (hold_on j) d.held ∙ hold_kept k j v.held n;
+      lent_here = ap (λ z. is_it z k) d.lent ∙ ((mine.loans k ∙ ap (lent_to id) was) ∙ sym (d.free.1 id));
+      lent_else = λ j n. ap (λ z. is_it z j) d.lent;
+      hand_here = ap (λ z. is_it z k) d.hand ∙ sym (d.free.2 id);
+      hand_else = λ j n. ap (λ z. is_it z j) d.hand ∙ some_but k j v.hand full n;
+      seen = d.seen;
+      marks = d.marks;
+      share = (d.share, some_share);
+      leads = leads;
+      spent = d.spent;
+    }
+
+  module _ (lawful : Lawful m) (slots id k : ℕ) (v : View X) (inside : k < m.pieces) (some_share : 0 < v.share) (c : List (ℕ × Home T O)) where
+    pub settles : (h : Hold) → v.about ≡ Some key → v.hand ≡ Some k → hold_on k v.held ≡ Some h
+        → ((i : ℕ) → i < length (reads m k) → (i < h.taken) ⊎ IsAmong (next_read m k i) v.seen)
+        → Allows (OneState meant key) slots id (v, (k, Outcome (outcome m k)) ∷ c) k (λ _. 3) (λ _. settles_view meant (step slots k 3 0 none) (v, (k, Outcome (outcome m k)) ∷ c) 3)
+    settles h about full has past s r deep seat small = let was = held_in_hand meant key s r id k v seat h full has in
+        let sound : IsSound m r.at k (held id h true) = subst (IsSound m r.at k) was (r.pieces k inside).sound in
+        let cheap : h.steps ≤ m.outcome_steps (outcome m k) = sound.1 in
+        let mine = r.views id v seat in
+        let w : View X = with_hand None (after_settle k (m.outcome_steps (outcome m k) - h.steps) v) in
+        let kept = moves meant key s r k id v w (held id h true) settled (set s.words k 3) (set s.homes k (some (Outcome (outcome m k))))
+        (ending id k v w inside some_share s r seat h settled 3 (Outcome (outcome m k)) full was refl refl tt
+        (record { held = refl; lent = refl; hand = refl; seen = λ j z. ⊎_elim (λ (e : j ≡ k). inr (e, tt)) (λ (o : IsAmong j v.seen). inl o) z; marks = (refl, refl); share = refl; spent = omega arith; free = ((λ j. refl), (λ j. refl), (λ j. refl), (λ n. tt)) })
+        (λ rc g e z. with_same m lawful (λ j. stage_of m (r.at j)) k inside ended
+        (to_end m lawful (λ j. stage_of m (r.at j)) k inside id h.taken (length (reads m k) - h.taken) h.advanced (with_here m lawful (λ j. stage_of m (r.at j)) k inside (worked id h.taken h.advanced) rc (ap (stage_of m) was))
+        (let b = sound.0.within in omega arith)
+        (λ i l. settled_ended m k (r.at (next_read m k i)) (⊎_elim (λ (a : i < h.taken). sound.0.taken i a) (λ (a : IsAmong (next_read m k i) v.seen). mine.seen (next_read m k i) a) (past i (let b = sound.0.within in omega arith))))) g e z)) in (
+          w,
+          gives,
+          tt,
+          kept,
+          λ x g a f. (let e : key ≡ x = one_key v.about key x about a in let q : h ≡ g = (let t : Some h ≡ Some g = sym has ∙ f in cc) in (
+            (λ i. (with_hand None (after_settle k ((meant (e i).meaning).outcome_steps (outcome (meant (e i).meaning) k) - (q i).steps) v), c)),
+            subst (λ (z : Key X). w.spent ≤ work (meant z.meaning)) e
+                (spent_within meant key lawful record { words = set s.words k 3; homes = set s.homes k (some (Outcome (outcome m k))); views = set s.views id w } kept id w (set_here s.views id w (at_length s.views id v seat))),
+          )),
+        )
+
+    front : List (ℕ × Home T O) → Home T O
+    front [] = Empty
+    front (x ∷ xs) = x.1
+
+    one_task : (t u : T) → ◌≡◌ {A = List (ℕ × Home T O)} ((k, Task t) ∷ c) ((k, Task u) ∷ c) → t ≡ u
+    unfolding front
+    one_task t u e = let q : ◌≡◌ {A = Home T O} (Task t) (Task u) = ap front e in cc
+
+    pub parks : (h : Hold) (t : T) (on : ℕ) → v.about ≡ Some key → v.hand ≡ Some k → hold_on k v.held ≡ Some h
+        → CanPark m k t → on ≡ next_read m k (m.taken t) → h.steps ≤ m.task_steps t → h.taken ≤ m.taken t → ((i : ℕ) → i < m.taken t → (i < h.taken) ⊎ IsAmong (next_read m k i) v.seen)
+        → Allows (OneState meant key) slots id (v, (k, Task t) ∷ c) k (λ _. 8 + on) (λ _. parks_view meant (step slots k (8 + on) 0 none) (v, (k, Task t) ∷ c) (8 + on))
+    parks h t on about full has own next more further past s r deep seat small = let was = held_in_hand meant key s r id k v seat h full has in
+        let sound : IsSound m r.at k (held id h true) = subst (IsSound m r.at k) was (r.pieces k inside).sound in
+        let mark = lawful.marked k t inside own.0 own.1 in
+        let mine = r.views id v seat in
+        let w : View X = with_hand None (after_park k (8 + on) (m.task_steps t - h.steps) v) in
+        let kept = moves meant key s r k id v w (held id h true) (parked t) (set s.words k (8 + on)) (set s.homes k (some (Task t)))
+        (ending id k v w inside some_share s r seat h (parked t) (8 + on) (Task t) full was (ap (λ (z : ℕ). 8 + z) next) refl
+        (record { within = lawful.within k t inside own.0; taken = λ i l. ⊎_elim (λ (a : i < h.taken). sound.0.taken i a) (λ (a : IsAmong (next_read m k i) v.seen). mine.seen (next_read m k i) a) (past i l); marked = λ l. mark }, own.1, own.0)
+        (record { held = refl; lent = refl; hand = refl; seen = λ j z. inl z; marks = (refl, refl); share = refl; spent = omega arith; free = ((λ j. refl), (λ j. refl), (λ j. refl), (λ n. tt)) })
+        (λ rc g e z. with_same m lawful (λ j. stage_of m (r.at j)) k inside (waiting (h.taken + (m.taken t - h.taken)) (m.advanced t))
+        (to_wait m lawful (λ j. stage_of m (r.at j)) k inside id h.taken (m.taken t - h.taken) h.advanced (m.advanced t) (with_here m lawful (λ j. stage_of m (r.at j)) k inside (worked id h.taken h.advanced) rc (ap (stage_of m) was))
+        (let b = own.1 in omega arith)
+        (λ i l. settled_ended m k (r.at (next_read m k i)) (⊎_elim (λ (a : i < h.taken). sound.0.taken i a) (λ (a : IsAmong (next_read m k i) v.seen). mine.seen (next_read m k i) a) (past i (omega arith))))
+        (λ q. (let z : m.taken t ≡ h.taken = omega arith in mark ∙ (ap (ltb 0) z ∙ sym (sound.0.marked (let b = own.1 in omega arith)))))
+        (λ q. mark ∙ lt-ltb 0 (m.taken t) (omega arith))) g (e ∙ (let z : m.taken t ≡ h.taken + (m.taken t - h.taken) = omega arith in ap (λ n. waiting n (m.advanced t)) z)) z)) in (
+          w,
+          gives,
+          tt,
+          kept,
+          λ x g u a f is. (let e : key ≡ x = one_key v.about key x about a in let q : h ≡ g = (let t' : Some h ≡ Some g = sym has ∙ f in cc) in let z : t ≡ u = one_task t u is in (
+            (λ i. (with_hand None (after_park k (8 + on) ((meant (e i).meaning).task_steps (z i) - (q i).steps) v), c)),
+            subst (λ (y : Key X). w.spent ≤ work (meant y.meaning)) e
+                (spent_within meant key lawful record { words = set s.words k (8 + on); homes = set s.homes k (some (Task t)); views = set s.views id w } kept id w (set_here s.views id w (at_length s.views id v seat))),
+          )),
+        )
+
+    pub gives_back : v.hand ≡ Some k → v.lent ≡ Some k → Allows (OneState meant key) slots id (v, (k, Outcome (outcome m k)) ∷ c) k (λ _. 3) (λ _. gave_back (step slots k 3 0 none) (v, (k, Outcome (outcome m k)) ∷ c) 3)
+    gives_back full has s r deep seat small = let was = lent_in_hand meant key s r id k v seat full has in
+        let w : View X = with_hand None (after_give_back k v) in let mine = r.views id v seat in (
+          w,
+          gives,
+          tt,
+          moves meant key s r k id v w (lent id true) settled (set s.words k 3) (set s.homes k (some (Outcome (outcome m k)))) record {
+            was = was;
+            inside = inside;
+            seat = seat;
+            words_long = length-set s.words k 3;
+            word = get_or-set_same s.words k 3 0 (let l = r.wide in omega arith);
+            words_else = λ j n. get_or-set_other s.words k j 3 0 n;
+            homes_long = length-set s.homes k (some (Outcome (outcome m k)));
+            home = set_here s.homes k (some (Outcome (outcome m k))) (let l = r.deep in omega arith);
+            homes_else = λ j n. set_else s.homes k j (some (Outcome (outcome m k))) n;
+            stays = λ z. tt;
+            sound = tt;
+            others = λ j n. (refl, sym (same_no id j (λ q. n (sym q))), sym (same_no id j (λ q. n (sym q))));
+            below = tt;
+            held_here = mine.holds k ∙ ap (held_by id) was;
+            held_else = λ j n. refl;
+            lent_here = refl;
+            lent_else = λ j n. some_but k j v.lent has n;
+            hand_here = refl;
+            hand_else = λ j n. some_but k j v.hand full n;
+            seen = λ j z. inl z;
+            marks = (refl, refl);
+            leads = λ rc g e z. still m (λ j. stage_of m (r.at j)) g k ended (ap (stage_of m) was) e z rc;
+            share = (refl, some_share);
+            spent = refl;
+          },
+          refl,
+        )

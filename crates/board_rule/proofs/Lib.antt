@@ -1,0 +1,13 @@
+pub mod Maps
+pub mod Machine
+pub mod Standings
+pub mod Moves
+pub mod Knowing
+pub mod Sights
+pub mod Claims
+pub mod Slots
+pub mod Ends
+pub mod Lends
+pub mod Seats
+pub mod Closing
+pub mod Showing

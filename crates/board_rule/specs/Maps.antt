@@ -1,0 +1,29 @@
+-- Functions on numbers that change at one place, lists of their values, and sums.
+use Rattle.std.specs.Prelude.{◌≡◌, ◌⊎◌, ℕ, zero, suc, ◌+◌, List, [], ◌∷◌, Bool, false, cond, eqb, Option, Some, None}
+
+unfoldable pub is_same : ℕ → ℕ → Bool
+is_same m n = eqb m n
+
+-- whether the number is there and is k
+abbrev pub is_it : Option ℕ → ℕ → Bool
+is_it None k = false
+is_it (Some j) k = is_same j k
+
+abbrev pub IsAmong : ℕ → List ℕ → Type 0
+IsAmong k [] = ⊥
+IsAmong k (x ∷ xs) = (k ≡ x) ⊎ IsAmong k xs
+
+module _ {A : Type 0} where
+  -- f, but x at k
+  unfoldable pub put_at : (ℕ → A) → ℕ → A → ℕ → A
+  put_at f k x j = cond (is_same j k) x (f j)
+
+  -- f 0, .., f (n - 1)
+  abbrev pub values : (ℕ → A) → ℕ → List A
+  values f zero = []
+  values f (suc n) = f 0 ∷ values (λ k. f (suc k)) n
+
+  -- f of each element, added up
+  abbrev pub total : (A → ℕ) → List A → ℕ
+  total f [] = 0
+  total f (x ∷ xs) = f x + total f xs

@@ -1,0 +1,52 @@
+-- The rule of the board: words, homes and views show one sound state.
+use Rattle.std.specs.Prelude.{◌≡◌, ℕ, ◌+◌, ◌<◌, ◌≤◌, List, [], length, slice_index, true, false, None}
+use mathlib.Core.Option.{some}
+use mathlib.Core.Option as maybe
+use lib.ListN.{get_elem?}
+use Rattle.atomic_table.specs.Table.{State}
+use Rattle.settle_core.specs.Meant.{Meant, outcome}
+use Rattle.settle_core.specs.Bound.{sum_below}
+use Rattle.board_rule.specs.Maps.{is_it, IsAmong, total}
+use Rattle.board_rule.specs.Stages.{Reached}
+use Rattle.board_rule.specs.Standing.{Standing, fresh, IsSettled, held_by, lent_to, in_hand_of, SeatBelow, word_of, home_of, steps_of, stage_of, IsSound}
+use Rattle.board_rule.specs.Views.{hold_on}
+use Rattle.board_rule.specs.declared.home.Home.{Home}
+use Rattle.board_rule.specs.declared.view.Key.{Key}
+use Rattle.board_rule.specs.declared.view.View.{View}
+
+-- the word and the home of the piece k show how it stands
+pub record PieceFits {T O : Type 0} (m : Meant T O) (words : List ℕ) (homes : List (maybe.Option (Home T O))) (at : ℕ → Standing T) (k : ℕ) : Type 0 where
+  pub word : slice_index words k ≡ word_of m k (at k)
+  pub home : get_elem? homes k ≡ some (home_of m k (at k))
+  pub sound : IsSound m at k (at k)
+
+-- The view of the seat id has of each piece what the piece says that it has. What it saw settled is, and what it knows of the stop
+-- word is so. A view without a share has nothing in it
+pub record ViewFits {T X : Type 0} (at : ℕ → Standing T) (stop id : ℕ) (v : View X) : Type 0 where
+  pub holds : (k : ℕ) → hold_on k v.held ≡ held_by id (at k)
+  pub loans : (k : ℕ) → is_it v.lent k ≡ lent_to id (at k)
+  pub hands : (k : ℕ) → is_it v.hand k ≡ in_hand_of id (at k)
+  pub seen : (k : ℕ) → IsAmong k v.seen → IsSettled (at k)
+  pub stopped : v.stopped ≡ true → stop ≡ 1
+  pub saw_stop : v.saw_stop ≡ true → stop ≡ 1
+  pub idle : v.share ≡ 0 → (v.held ≡ []) × (v.lent ≡ None) × (v.hand ≡ None) × (v.seen ≡ []) × (v.spent ≡ 0) × (v.stopped ≡ false) × (v.trail ≡ []) × (v.saw_stop ≡ false)
+
+-- the steps of all outcomes
+abbrev pub work : {T O : Type 0} → Meant T O → ℕ
+work m = sum_below (λ k. m.outcome_steps (outcome m k)) m.pieces
+
+-- The pieces stand in some way of which words, homes and views are functions. The last word is the stop word. The machine of parked
+-- tasks reaches the state of the pieces. The shares of all views are the seats, and the steps that all views spent are those of
+-- settled outcomes, of parked tasks, and of held tasks when they were claimed
+pub record OneState {X T O : Type 0} (meant : X → Meant T O) (key : Key X) (s : State (Home T O) (View X)) : Type 0 where
+  pub at : ℕ → Standing T
+  pub wide : length s.words ≡ (meant key.meaning).pieces + 1
+  pub deep : length s.homes ≡ (meant key.meaning).pieces
+  pub pieces : (k : ℕ) → k < (meant key.meaning).pieces → PieceFits (meant key.meaning) s.words s.homes at k
+  pub beyond : (k : ℕ) → (meant key.meaning).pieces ≤ k → at k ≡ fresh
+  pub reached : Reached (meant key.meaning) (λ k. stage_of (meant key.meaning) (at k))
+  pub seated : (k : ℕ) → SeatBelow (length s.views) (at k)
+  pub stop : slice_index s.words (meant key.meaning).pieces ≤ 1
+  pub views : (id : ℕ) (v : View X) → get_elem? s.views id ≡ some v → ViewFits at (slice_index s.words (meant key.meaning).pieces) id v
+  pub shares : total (λ (v : View X). v.share) s.views ≡ key.seats
+  pub spent : total (λ (v : View X). v.spent) s.views ≡ sum_below (λ k. steps_of (meant key.meaning) k (at k)) (meant key.meaning).pieces
