@@ -1,0 +1,268 @@
+-- What the calls mean for a caller, said of plain views: how each changes the view, what is then seen, what the last piece seen
+-- unsettled is, and when a task has seen its reads.
+use Rattle.std.proofs.Common.{◌≡◌, ◌≢◌, ◌⊎◌, ℕ, ◌+◌, ◌<◌, ◌≤◌, List, [], ◌∷◌, ◌++◌, sym, refl, ap, ◌∙◌, subst, arith, IsSome, is_some, Bool, true, false, cond, ◌||◌, inl, inr, ⊎_elim, Option, Some, None, append_assoc, append-nil}
+use Rattle.std.proofs.lemmas.List.Sums.{fold_push}
+use Rattle.cxx_base.specs.declared.number.PieceNo.{PieceNo}
+use Rattle.settle_core.specs.Meant.{Meant}
+use Rattle.board_rule.specs.Maps.{is_same, IsAmong}
+use Rattle.board_rule.specs.Standing.{next_read}
+use Rattle.board_rule.specs.Views.{hold_on, without, fresh_hold, task_hold, after_look, after_stop_look, after_settle, after_park, after_give_back, unless_settled, unsettled_after, last_unsettled}
+use Rattle.board_rule.specs.declared.view.Hold.{Hold}
+use Rattle.board_rule.specs.declared.view.View.{View}
+use Rattle.board_rule.specs.declared.view.Entry.{Entry}
+use Rattle.board_rule.specs.declared.view.Entry.TheVariants.{Looks, LooksAtStop, ClaimsFresh, ClaimsParked, Settles, Parks, Lends, GivesBack}
+use Rattle.board_rule.proofs.Maps.{by_same, same_yes, same_no, hold_here}
+use Rattle.board_rule.proofs.Standings.{saw_before, saw_it}
+use Rattle.settle_board.specs.Boards.{HasSeen}
+use Rattle.settle_board.specs.Answers.{ClaimSays, LendSays}
+use Rattle.settle_board.specs.Changes.{Becomes, TurnsAway, IsWithin, IsTurnedAway, AllTurnAway}
+use Rattle.settle_board.specs.declared.answers.Claim.TheVariants.{Start, Resume, NotNow, StillParked}
+use Rattle.settle_board.specs.declared.answers.Lend.TheVariants.{Got, NotSettled, Busy}
+
+module _ {X : Type 0} where
+  -- nothing was done
+  pub begin : (v : View X) → Becomes v.held v.lent 0 [] v v
+  begin v = record { about = refl; share = refl; stopped = refl; saw_stop = λ e. e; holds = refl; loan = refl; spent = omega arith; seen = λ j h. h; trail = sym (append-nil v.trail) }
+
+  -- one change after the other
+  pub then : (held held' : List Hold) (lent lent' : Option ℕ) (a b : ℕ) (p q : List Entry) (u v w : View X) → Becomes held lent a p u v → Becomes held' lent' b q v w → Becomes held' lent' (a + b) (p ++ q) u w
+  then held held' lent lent' a b p q u v w f g = record {
+    about = g.about ∙ f.about;
+    share = g.share ∙ f.share;
+    stopped = g.stopped ∙ f.stopped;
+    saw_stop = λ e. g.saw_stop (f.saw_stop e);
+    holds = g.holds;
+    loan = g.loan;
+    spent = (let x = f.spent in let y = g.spent in omega arith);
+    seen = λ j h. g.seen j (f.seen j h);
+    trail = g.trail ∙ (ap (λ t. t ++ q) f.trail ∙ append_assoc u.trail p q);
+  }
+
+  -- a look, or an exchange that is lost
+  module _ (e : Entry) (k r : ℕ) (v w : View X) (is : w ≡ after_look e k r v) where
+    pub looks : Becomes v.held v.lent 0 (e ∷ []) v w
+    looks = record {
+      about = ap (λ x. x.about) is;
+      share = ap (λ x. x.share) is;
+      stopped = ap (λ x. x.stopped) is;
+      saw_stop = λ q. ap (λ x. x.saw_stop) is ∙ q;
+      holds = ap (λ x. x.held) is;
+      loan = ap (λ x. x.lent) is;
+      spent = (let h = ap (λ x. x.spent) is in omega arith);
+      seen = λ j h. subst (IsAmong j) (sym (ap (λ x. x.seen) is)) (saw_before k r v.seen j h);
+      trail = ap (λ x. x.trail) is;
+    }
+
+    pub sees_settled : (r ≡ 3) ⊎ (r ≡ 4) → IsAmong k w.seen
+    sees_settled h = subst (IsAmong k) (sym (ap (λ x. x.seen) is)) (saw_it k r v.seen h)
+
+-- a look at the stop word
+pub looks_at_stop : {X : Type 0} (r : ℕ) (v w : View X) → w ≡ after_stop_look r v → Becomes v.held v.lent 0 (LooksAtStop r ∷ []) v w
+looks_at_stop r v w is = record {
+  about = ap (λ x. x.about) is;
+  share = ap (λ x. x.share) is;
+  stopped = ap (λ x. x.stopped) is;
+  saw_stop = λ q. ap (λ x. x.saw_stop) is ∙ either_true (is_same r 1) v.saw_stop q;
+  holds = ap (λ x. x.held) is;
+  loan = ap (λ x. x.lent) is;
+  spent = (let h = ap (λ x. x.spent) is in omega arith);
+  seen = λ j h. subst (IsAmong j) (sym (ap (λ x. x.seen) is)) h;
+  trail = ap (λ x. x.trail) is;
+}
+  where
+    either_true : (a b : Bool) → b ≡ true → (a || b) ≡ true
+    either_true true b e = refl
+    either_true false b e = e
+
+unless_open : (p r : ℕ) (before : Option ℕ) → r ≢ 3 → r ≢ 4 → unless_settled p r before ≡ Some p
+unless_open p r before a b = ap (λ t. cond (t || is_same r 4) before (Some p)) (same_no r 3 a) ∙ ap (λ t. cond t before (Some p)) (same_no r 4 b)
+
+-- the last piece seen unsettled, after one step more
+pub last_more : (k : ℕ) (trail : List Entry) (e : Entry) → last_unsettled k (trail ++ e ∷ []) ≡ unsettled_after k (last_unsettled k trail) e
+last_more k trail e = fold_push (unsettled_after k) None trail e
+
+module _ {X : Type 0} (k p r : ℕ) (v w : View X) (a : r ≢ 3) (b : r ≢ 4) where
+  pub look_waits : w ≡ after_look (Looks p r) p r v → last_unsettled k w.trail ≡ Some p
+  look_waits is = ap (λ x. last_unsettled k x.trail) is ∙ (last_more k v.trail (Looks p r) ∙ unless_open p r (last_unsettled k v.trail) a b)
+
+  pub lend_waits : w ≡ after_look (Lends p r false) p r v → last_unsettled k w.trail ≡ Some p
+  lend_waits is = ap (λ x. last_unsettled k x.trail) is ∙ (last_more k v.trail (Lends p r false) ∙ unless_open p r (last_unsettled k v.trail) a b)
+
+module _ {X T O : Type 0} (m : Meant T O) (k : ℕ) (v w : View X) where
+  -- a claim that is won
+  pub claim_starts : ClaimSays m k v Start w → Becomes (fresh_hold k ∷ v.held) v.lent 0 (Looks k 0 ∷ ClaimsFresh k 0 true ∷ []) v w
+  claim_starts h = record {
+    about = ap (λ x. x.about) h;
+    share = ap (λ x. x.share) h;
+    stopped = ap (λ x. x.stopped) h;
+    saw_stop = λ q. ap (λ x. x.saw_stop) h ∙ q;
+    holds = ap (λ x. x.held) h;
+    loan = ap (λ x. x.lent) h;
+    spent = (let e = ap (λ x. x.spent) h in omega arith);
+    seen = λ j s. subst (IsAmong j) (sym (ap (λ x. x.seen) h)) (saw_before k 0 v.seen j s);
+    trail = ap (λ x. x.trail) h ∙ append_assoc v.trail (Looks k 0 ∷ []) (ClaimsFresh k 0 true ∷ []);
+  }
+
+  pub claim_resumes : (t : T) (h : ClaimSays m k v (Resume t) w) → let on = next_read m k (m.taken t) in
+      Becomes (task_hold m k t ∷ v.held) v.lent 0 (Looks k (8 + on) ∷ Looks on h.1 ∷ ClaimsParked k (8 + on) true ∷ []) v w × IsAmong on w.seen
+  claim_resumes t h = let on = next_read m k (m.taken t) in let e = h.3 in (
+    record {
+      about = ap (λ x. x.about) e;
+      share = ap (λ x. x.share) e;
+      stopped = ap (λ x. x.stopped) e;
+      saw_stop = λ q. ap (λ x. x.saw_stop) e ∙ q;
+      holds = ap (λ x. x.held) e;
+      loan = ap (λ x. x.lent) e;
+      spent = (let q = ap (λ x. x.spent) e in omega arith);
+      seen = λ j s. subst (IsAmong j) (sym (ap (λ x. x.seen) e)) (saw_before on h.1 _ j (saw_before k (8 + on) v.seen j s));
+      trail = ap (λ x. x.trail) e ∙ (append_assoc (v.trail ++ Looks k (8 + on) ∷ []) (Looks on h.1 ∷ []) (ClaimsParked k (8 + on) true ∷ []) ∙ append_assoc v.trail (Looks k (8 + on) ∷ []) (Looks on h.1 ∷ ClaimsParked k (8 + on) true ∷ []));
+    },
+    subst (IsAmong on) (sym (ap (λ x. x.seen) e)) (saw_it on h.1 _ h.2),
+  )
+
+  -- a claim that is turned away
+  pub claim_not_now : (r : ℕ) → ClaimSays m k v (NotNow r) w → (here : List Entry) × Becomes v.held v.lent 0 here v w × TurnsAway k here
+  claim_not_now r (inl h) = (Looks k r ∷ [], looks (Looks k r) k r v w h.0, inl (r, refl, h.1))
+  claim_not_now r (inr (inl h)) = let u = after_look (Looks k 0) k 0 v in (
+    Looks k 0 ∷ ClaimsFresh k r false ∷ [],
+    then v.held u.held v.lent u.lent 0 0 (Looks k 0 ∷ []) (ClaimsFresh k r false ∷ []) v u w (looks (Looks k 0) k 0 v u refl) (looks (ClaimsFresh k r false) k r u w h.0),
+    inr (inl (r, refl, h.1)),
+  )
+  claim_not_now r (inr (inr h)) = let on = h.0 in let found = h.1 in let t = after_look (Looks k (8 + on)) k (8 + on) v in let u = after_look (Looks on found) on found t in (
+    Looks k (8 + on) ∷ Looks on found ∷ ClaimsParked k r false ∷ [],
+    then v.held v.held v.lent v.lent 0 0 (Looks k (8 + on) ∷ []) (Looks on found ∷ ClaimsParked k r false ∷ []) v t w (looks (Looks k (8 + on)) k (8 + on) v t refl)
+        (then v.held v.held v.lent v.lent 0 0 (Looks on found ∷ []) (ClaimsParked k r false ∷ []) t u w (looks (Looks on found) on found t u refl) (looks (ClaimsParked k r false) k r u w h.2)),
+    inr (inr (inl (on, found, r, refl, h.3, h.4))),
+  )
+
+  pub claim_still : (on : PieceNo) (found : ℕ) → ClaimSays m k v (StillParked on found) w → (here : List Entry) × Becomes v.held v.lent 0 here v w × TurnsAway k here
+  claim_still on found h = let t = after_look (Looks k (8 + on.0)) k (8 + on.0) v in (
+    Looks k (8 + on.0) ∷ Looks on.0 found ∷ [],
+    then v.held v.held v.lent v.lent 0 0 (Looks k (8 + on.0) ∷ []) (Looks on.0 found ∷ []) v t w (looks (Looks k (8 + on.0)) k (8 + on.0) v t refl) (looks (Looks on.0 found) on.0 found t w h.0),
+    inr (inr (inr (on.0, found, refl, h.1, h.2, h.3))),
+  )
+
+  -- loans
+  pub lend_gets : (o : O) → LendSays m k v (Got o) w → Becomes v.held (Some k) 0 (Lends k 3 true ∷ []) v w × IsAmong k w.seen
+  lend_gets o h = (
+    record {
+      about = ap (λ x. x.about) h.1;
+      share = ap (λ x. x.share) h.1;
+      stopped = ap (λ x. x.stopped) h.1;
+      saw_stop = λ q. ap (λ x. x.saw_stop) h.1 ∙ q;
+      holds = ap (λ x. x.held) h.1;
+      loan = ap (λ x. x.lent) h.1;
+      spent = (let q = ap (λ x. x.spent) h.1 in omega arith);
+      seen = λ j s. subst (IsAmong j) (sym (ap (λ x. x.seen) h.1)) (inr s);
+      trail = ap (λ x. x.trail) h.1;
+    },
+    subst (IsAmong k) (sym (ap (λ x. x.seen) h.1)) (inl refl),
+  )
+
+  pub lend_open : (r : ℕ) → LendSays m k v (NotSettled r) w → Becomes v.held v.lent 0 (Lends k r false ∷ []) v w × ((p : ℕ) → last_unsettled p w.trail ≡ Some k)
+  lend_open r h = let open_word = h.1 in (
+    looks (Lends k r false) k r v w h.0,
+    λ p. lend_waits p k r v w (λ e. ⊎_elim (λ (a : r < 3). omega arith) (λ (a : 8 ≤ r). omega arith) open_word) (λ e. ⊎_elim (λ (a : r < 3). omega arith) (λ (a : 8 ≤ r). omega arith) open_word) h.0,
+  )
+
+  pub lend_busy : (r : ℕ) → LendSays m k v (Busy r) w → Becomes v.held v.lent 0 (Lends k 4 false ∷ []) v w × IsAmong k w.seen
+  lend_busy r h = (looks (Lends k 4 false) k 4 v w h.1, sees_settled (Lends k 4 false) k 4 v w h.1 (inr refl))
+
+module _ {X : Type 0} (k : ℕ) (v w : View X) where
+  pub gives : w ≡ after_give_back k v → Becomes v.held None 0 (GivesBack k ∷ []) v w
+  gives h = record {
+    about = ap (λ x. x.about) h;
+    share = ap (λ x. x.share) h;
+    stopped = ap (λ x. x.stopped) h;
+    saw_stop = λ q. ap (λ x. x.saw_stop) h ∙ q;
+    holds = ap (λ x. x.held) h;
+    loan = ap (λ x. x.lent) h;
+    spent = (let q = ap (λ x. x.spent) h in omega arith);
+    seen = λ j s. subst (IsAmong j) (sym (ap (λ x. x.seen) h)) s;
+    trail = ap (λ x. x.trail) h;
+  }
+
+  -- the ends of a hold
+  pub settles : (steps : ℕ) → w ≡ after_settle k steps v → Becomes (without k v.held) v.lent steps (Settles k ∷ []) v w × IsAmong k w.seen
+  settles steps h = (
+    record {
+      about = ap (λ x. x.about) h;
+      share = ap (λ x. x.share) h;
+      stopped = ap (λ x. x.stopped) h;
+      saw_stop = λ q. ap (λ x. x.saw_stop) h ∙ q;
+      holds = ap (λ x. x.held) h;
+      loan = ap (λ x. x.lent) h;
+      spent = ap (λ x. x.spent) h;
+      seen = λ j s. subst (IsAmong j) (sym (ap (λ x. x.seen) h)) (inr s);
+      trail = ap (λ x. x.trail) h;
+    },
+    subst (IsAmong k) (sym (ap (λ x. x.seen) h)) (inl refl),
+  )
+
+  pub parks : (word steps : ℕ) → w ≡ after_park k word steps v → Becomes (without k v.held) v.lent steps (Parks k word ∷ []) v w
+  parks word steps h = record {
+    about = ap (λ x. x.about) h;
+    share = ap (λ x. x.share) h;
+    stopped = ap (λ x. x.stopped) h;
+    saw_stop = λ q. ap (λ x. x.saw_stop) h ∙ q;
+    holds = ap (λ x. x.held) h;
+    loan = ap (λ x. x.lent) h;
+    spent = ap (λ x. x.spent) h;
+    seen = λ j s. subst (IsAmong j) (sym (ap (λ x. x.seen) h)) s;
+    trail = ap (λ x. x.trail) h;
+  }
+
+-- the holds of a view
+pub held_first : (h : Hold) (hs held : List Hold) (k : ℕ) → held ≡ h ∷ hs → h.piece ≡ k → hold_on k held ≡ Some h
+held_first h hs held k is e = ap (hold_on k) is ∙ hold_here h hs k e
+
+pub held_some : (h : Hold) (k : ℕ) (held : List Hold) → hold_on k held ≡ Some h → IsSome (hold_on k held)
+held_some h k held e = ap is_some e
+
+pub one_hold : (h g : Hold) (k : ℕ) (held : List Hold) → hold_on k held ≡ Some h → hold_on k held ≡ Some g → h ≡ g
+one_hold h g k held a b = let e : Some h ≡ Some g = sym a ∙ b in cc
+
+pub none_left : (h : Hold) (k : ℕ) → h.piece ≡ k → without k (h ∷ []) ≡ []
+none_left h k e = ap (λ b. cond b [] (h ∷ [])) (same_yes h.piece k e)
+
+-- a task that has seen its first n reads
+module _ {X T O : Type 0} (m : Meant T O) (k : ℕ) where
+  pub seen_none_yet : (v : View X) → HasSeen m k 0 v
+  seen_none_yet v h e i l = absurd (omega arith)
+
+  pub seen_claimed : (v : View X) (t : T) → hold_on k v.held ≡ Some (task_hold m k t) → HasSeen m k (m.taken t) v
+  seen_claimed v t has h e i l = inl (subst (λ (x : Hold). i < x.taken) (one_hold (task_hold m k t) h k v.held has e) l)
+
+  pub seen_one_more : (n : ℕ) (v : View X) → HasSeen m k n v → IsAmong (next_read m k n) v.seen → HasSeen m k (n + 1) v
+  seen_one_more n v all has h e i l = by_same i n (λ (q : i ≡ n). inr (subst (λ (z : ℕ). IsAmong (next_read m k z) v.seen) (sym q) has)) (λ (d : i ≢ n). all h e i (omega arith))
+
+  pub seen_stays : (n : ℕ) (v w : View X) → hold_on k w.held ≡ hold_on k v.held → ((j : ℕ) → IsAmong j v.seen → IsAmong j w.seen) → HasSeen m k n v → HasSeen m k n w
+  seen_stays n v w same grows all h e i l = ⊎_elim (λ (a : i < h.taken). inl a) (λ (a : IsAmong (next_read m k i) v.seen). inr (grows (next_read m k i) a)) (all h (sym same ∙ e) i l)
+
+-- parts of trails
+module _ (here : List Entry) where
+  pub within_itself : IsWithin here here
+  within_itself = ([], [], sym (append-nil here))
+
+  pub within_left : (p q : List Entry) → IsWithin here p → IsWithin here (p ++ q)
+  within_left p q h = (h.0, h.1 ++ q, ap (λ x. x ++ q) h.2 ∙ (append_assoc h.0 (here ++ h.1) q ∙ ap (λ x. h.0 ++ x) (append_assoc here h.1 q)))
+
+  pub within_right : (p q : List Entry) → IsWithin here q → IsWithin here (p ++ q)
+  within_right p q h = (p ++ h.0, h.1, ap (λ x. p ++ x) h.2 ∙ sym (append_assoc p h.0 (here ++ h.1)))
+
+-- a piece that was tried
+module _ (k : ℕ) (p q : List Entry) where
+  pub turned_left : IsTurnedAway k p → IsTurnedAway k (p ++ q)
+  turned_left h = (h.0, h.1, within_left h.0 p q h.2)
+
+  pub turned_right : IsTurnedAway k q → IsTurnedAway k (p ++ q)
+  turned_right h = (h.0, h.1, within_right h.0 p q h.2)
+
+pub turned_here : (k : ℕ) (here : List Entry) → TurnsAway k here → IsTurnedAway k here
+turned_here k here h = (here, h, within_itself here)
+
+-- one piece more was tried
+pub turn_away_more : (n : ℕ) (p here : List Entry) → AllTurnAway n p → TurnsAway n here → AllTurnAway (n + 1) (p ++ here)
+turn_away_more n p here all one k l = by_same k n
+    (λ (e : k ≡ n). subst (λ (z : ℕ). IsTurnedAway z (p ++ here)) (sym e) (turned_right n p here (turned_here n here one)))
+    (λ (d : k ≢ n). turned_left k p here (all k (omega arith)))

@@ -1,0 +1,7 @@
+pub mod Allowed
+pub mod Hands
+pub mod Dealt
+pub mod Taking
+pub mod Joined
+pub mod Callers
+pub mod SeatLists

@@ -1,0 +1,31 @@
+use Rattle.std.proofs.Common.{◌≡◌, ◌+◌, ap, ⊎_elim, inl, inr, arith, length}
+use Rattle.board_rule.specs.Maps.{IsAmong}
+use Rattle.settle_board.specs.Boards.{view_of}
+use Rattle.settle_board.specs.Seating.{SeenBy, spent_by}
+use Rattle.settle_board.proofs.Joined.{may_join, gathered_more, last_back, rest_back, last_spent, last_length, last_seen, seen_both, seen_none}
+use Rattle.settle_board.proofs.closing.gather.Goals as goal
+
+pub join_seat-requires : goal.join_seat-requires
+join_seat-requires g c = let v = c.loop-other.invariant in let p = c.in-Some.ensures in
+    may_join (λ x. g.M.Meaning.meant x) c.args.board.now _ _ v.first c.in-Some.other (last_back _ _ _ p.items (λ x. g.M.Meaning.meant x) c.args.board.now v.back)
+
+pub loop-other-preserved : goal.loop-other-preserved
+loop-other-preserved g c = let v = c.loop-other.invariant in let p = c.in-Some.ensures in let j = c.join_seat.ensures in
+    let r = last_back _ _ _ p.items (λ x. g.M.Meaning.meant x) c.args.board.now v.back in
+    let one = r.0.share in
+    let n : length c.loop-other.list.items ≡ length c.pop.new.self.items + 1 = last_length _ _ _ p.items in
+    let s : spent_by c.loop-other.list.items ≡ spent_by c.pop.new.self.items + (view_of c.in-Some.other).spent = last_spent _ _ _ p.items in
+    let a : c.join_seat.new.seat.me.0.share ≡ c.loop-other.first.me.0.share + (view_of c.in-Some.other).share = ap (λ x. x.0.share) j.2 in
+    let b : c.join_seat.new.seat.me.0.spent ≡ c.loop-other.first.me.0.spent + (view_of c.in-Some.other).spent = ap (λ x. x.0.spent) j.2 in record {
+      first = gathered_more (λ x. g.M.Meaning.meant x) c.args.board.now _ _ v.first c.in-Some.other r _ j.0 j.2;
+      back = rest_back _ _ _ p.items (λ x. g.M.Meaning.meant x) c.args.board.now v.back;
+      count = (let q = v.count in omega arith);
+      spent = (let q = v.spent in omega arith);
+      seen = λ k h. ⊎_elim (λ (x : IsAmong k c.loop-other.first.me.0.seen). inl (seen_both (λ x. g.M.Meaning.meant x) c.args.board.now c.loop-other.first.me.0 (view_of c.in-Some.other) c.join_seat.new.seat.me c.loop-other.first.me.1 j.2 k (inl x)))
+          (λ (x : SeenBy k c.loop-other.list.items). ⊎_elim (λ (y : SeenBy k c.pop.new.self.items). inr y) (λ (y : IsAmong k (view_of c.in-Some.other).seen). inl (seen_both (λ x. g.M.Meaning.meant x) c.args.board.now c.loop-other.first.me.0 (view_of c.in-Some.other) c.join_seat.new.seat.me c.loop-other.first.me.1 j.2 k (inr y)))
+          (last_seen _ _ _ p.items k x)) (v.seen k h);
+    }
+
+pub returns-clause-seen : goal.returns-clause-seen
+returns-clause-seen g c k h = ⊎_elim (λ (x : IsAmong k c.loop-other.first.me.0.seen). x)
+    (λ (x : SeenBy k c.loop-other.list.items). absurd (seen_none k c.loop-other.list.items (let d = c.in_default.ensures.cases.0 in let o = c.loop-other.list.ok in omega arith) x)) (c.loop-other.invariant.seen k h)

@@ -1,0 +1,69 @@
+-- The seats of a board when it is new, and when it is closed.
+use Rattle.std.specs.Prelude.{◌≡◌, ◌⊎◌, ℕ, ◌+◌, ◌<◌, List, [], ◌∷◌, None}
+use mathlib.Core.Option.{some}
+use lib.ListN.{get_elem?}
+use Rattle.atomic_table.specs.declared.shared.Seat.{Seat}
+use Rattle.atomic_table.specs.Seated.{TableId}
+use Rattle.settle_core.specs.Meant.{Meant}
+use Rattle.settle_core.specs.declared.meaning.Meaning.{Ghosts}
+use Rattle.board_rule.specs.Maps.{IsAmong, total}
+use Rattle.board_rule.specs.Views.{first_view}
+use Rattle.board_rule.specs.declared.home.Home.{Home}
+use Rattle.board_rule.specs.declared.view.Key.{Key}
+use Rattle.board_rule.specs.declared.view.View.{View}
+use Rattle.settle_board.specs.Boards.{IsOf, view_of}
+use Rattle.settle_board.specs.declared.board.Board.{Board}
+use Rattle.settle_board.specs.declared.board.BoardSeat.{BoardSeat}
+use Rattle.settle_board.specs.declared.board.Seats.{Seats}
+
+-- a view with a share of n seats, and nothing else in it
+abbrev pub blank : {X : Type 0} → Key X → ℕ → View X
+blank key n = record (first_view key) { share = n }
+
+module _ {X T O : Type 0} where
+  abbrev pub seats_in : {ghosts : Ghosts X T O} → Seats X T O ghosts → List (BoardSeat X T O)
+  seats_in s = s.list.items
+
+  -- how many seats the board of the list was made with
+  abbrev pub count_of : {ghosts : Ghosts X T O} → Seats X T O ghosts → ℕ
+  count_of s = s.count
+
+  -- how many seats the board was made with
+  abbrev pub seats_of : Board X T O → ℕ
+  seats_of b = b.key.seats
+
+  -- each is a seat of the board, and nothing was done with it yet
+  abbrev pub AreNew : (X → Meant T O) → Board X T O → List (BoardSeat X T O) → Type 0
+  AreNew meant b seats = (i : ℕ) (s : BoardSeat X T O) → get_elem? seats i ≡ some s → IsOf meant b s × (view_of s ≡ blank b.key 1)
+
+  -- each is a seat of the board, which holds no piece and has no outcome lent
+  abbrev pub AreBack : (X → Meant T O) → Board X T O → List (BoardSeat X T O) → Type 0
+  AreBack meant b seats = (i : ℕ) (s : BoardSeat X T O) → get_elem? seats i ≡ some s → IsOf meant b s × ((view_of s).held ≡ []) × ((view_of s).lent ≡ None)
+
+  -- one of the seats settled the piece k, or saw it settled
+  abbrev pub SeenBy : ℕ → List (BoardSeat X T O) → Type 0
+  SeenBy k [] = ⊥
+  SeenBy k (s ∷ ss) = IsAmong k (view_of s).seen ⊎ SeenBy k ss
+
+  -- the steps that the seats spent
+  abbrev pub spent_by : List (BoardSeat X T O) → ℕ
+  spent_by seats = total (λ (s : BoardSeat X T O). (view_of s).spent) seats
+
+  -- a seat that stands for n, and has nothing but this share
+  pub record Dealing (m : Meant T O) (table : TableId) (key : Key X) (n : ℕ) (s : Seat (Home T O) (View X)) : Type 0 where
+    pub words : table.words ≡ m.pieces + 1
+    pub slots : table.slots ≡ m.pieces
+    pub at : s.table_id ≡ table
+    pub me : s.me ≡ (blank key n, [])
+
+  -- a seat that stands for n, and has no piece
+  pub record Gathered (m : Meant T O) (table : TableId) (key : Key X) (n : ℕ) (s : Seat (Home T O) (View X)) : Type 0 where
+    pub words : table.words ≡ m.pieces + 1
+    pub slots : table.slots ≡ m.pieces
+    pub at : s.table_id ≡ table
+    pub share : s.me.0.share ≡ n
+    pub some_share : 0 < n
+    pub held : s.me.0.held ≡ []
+    pub lent : s.me.0.lent ≡ None
+    pub hand : s.me.0.hand ≡ None
+    pub bare : s.me.1 ≡ []
