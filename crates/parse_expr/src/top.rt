@@ -1,0 +1,223 @@
+//! The rules at each level.
+#![tactic(auto, using(cxx_grammar::proofs::Levels::levels))]
+
+ghost use Rattle.std.specs.Prelude.{◌≤◌};
+ghost use Rattle.cxx_grammar.specs.Read.{read};
+ghost use Rattle.cxx_grammar.specs.Unaries.{sized};
+ghost use Rattle.cxx_reading.specs.Reading.{Gives};
+
+use crate::reader::ExprReader;
+use cxx_grammar::SizedOperand;
+use cxx_reading::Fault;
+use cxx_tokens::Tokens;
+use cxx_tree::{ArgTrees, BracedTree, Expr, NameTree, SpliceTree, TypeTree};
+use parse_list::ListReader;
+use parse_primary::PrimaryReader;
+use parse_type::{TypeReader, name};
+use std::alloc::Global;
+
+// The first level that is too deep.
+const TOO_DEEP: u32 = 257;
+
+/// The expression ([expr]) that begins at token number `at`, with `level` levels of nesting around it, and the number of
+/// the token after it: exactly what the grammar gives. The level is at most 257, where each rule is too deep. It answers
+/// `Syntax` exactly where nothing begins there, `Deep` exactly where it is too deep, or `Memory`.
+#[cycle(levels)]
+pub fn expression(alloc: Global, tokens: &Tokens, at: u32, level: u32) -> Result<(Expr, u32), Fault>
+    requires { level ≤ 257 }
+    ensures { Gives ((read tokens.now level).expr at) result }
+{
+    if level == TOO_DEEP {
+        return Err(Fault::Deep);
+    }
+    let reader = ExprReader {
+        primaries: PrimaryReader {
+            lists: ListReader {
+                types: TypeReader {
+                    alloc,
+                    tokens,
+                    level: level + 1,
+                    expr: expression,
+                },
+                braced: braced_at,
+            },
+        },
+        unary: unary_at,
+        type_tree: type_at,
+        sized: sized_at,
+    };
+    reader.expr_here(at)
+}
+
+/// The same for a type ([dcl.name]).
+#[cycle(levels)]
+pub fn type_at(
+    alloc: Global,
+    tokens: &Tokens,
+    at: u32,
+    level: u32,
+) -> Result<(TypeTree, u32), Fault>
+    requires { level ≤ 257 }
+    ensures { Gives ((read tokens.now level).type_tree at) result }
+{
+    if level == TOO_DEEP {
+        return Err(Fault::Deep);
+    }
+    let reader = TypeReader {
+        alloc,
+        tokens,
+        level: level + 1,
+        expr: expression,
+    };
+    reader.type_tree(at)
+}
+
+/// The same for a braced list ([dcl.init.list]).
+#[cycle(levels)]
+pub fn braced_at(
+    alloc: Global,
+    tokens: &Tokens,
+    at: u32,
+    level: u32,
+) -> Result<(BracedTree, u32), Fault>
+    requires { level ≤ 257 }
+    ensures { Gives ((read tokens.now level).braced at) result }
+{
+    if level == TOO_DEEP {
+        return Err(Fault::Deep);
+    }
+    let reader = ListReader {
+        types: TypeReader {
+            alloc,
+            tokens,
+            level: level + 1,
+            expr: expression,
+        },
+        braced: braced_at,
+    };
+    reader.braced_list(at)
+}
+
+/// The same for a unary expression ([expr.unary]).
+#[cycle(levels)]
+pub fn unary_at(alloc: Global, tokens: &Tokens, at: u32, level: u32) -> Result<(Expr, u32), Fault>
+    requires { level ≤ 257 }
+    ensures { Gives ((read tokens.now level).unary at) result }
+{
+    if level == TOO_DEEP {
+        return Err(Fault::Deep);
+    }
+    let reader = ExprReader {
+        primaries: PrimaryReader {
+            lists: ListReader {
+                types: TypeReader {
+                    alloc,
+                    tokens,
+                    level: level + 1,
+                    expr: expression,
+                },
+                braced: braced_at,
+            },
+        },
+        unary: unary_at,
+        type_tree: type_at,
+        sized: sized_at,
+    };
+    reader.unary_here(at)
+}
+
+// The operand of `sizeof`.
+#[cycle(levels)]
+fn sized_at(
+    alloc: Global,
+    tokens: &Tokens,
+    at: u32,
+    level: u32,
+) -> Result<(SizedOperand, u32), Fault>
+    requires { level ≤ 257 }
+    ensures { Gives (sized tokens.now (read tokens.now level) at) result }
+{
+    if level == TOO_DEEP {
+        return Err(Fault::Deep);
+    }
+    let reader = ExprReader {
+        primaries: PrimaryReader {
+            lists: ListReader {
+                types: TypeReader {
+                    alloc,
+                    tokens,
+                    level: level + 1,
+                    expr: expression,
+                },
+                braced: braced_at,
+            },
+        },
+        unary: unary_at,
+        type_tree: type_at,
+        sized: sized_at,
+    };
+    reader.sized_here(at)
+}
+
+/// The same for a name ([expr.prim.id]).
+pub fn name_at(
+    alloc: Global,
+    tokens: &Tokens,
+    at: u32,
+    level: u32,
+) -> Result<(NameTree, u32), Fault>
+    requires { level ≤ 257 }
+    ensures { Gives ((read tokens.now level).name at) result }
+{
+    if level == TOO_DEEP {
+        return Err(Fault::Deep);
+    }
+    name(alloc, tokens, at)
+}
+
+/// The same for a splice (P2996R13).
+pub fn splice_at(
+    alloc: Global,
+    tokens: &Tokens,
+    at: u32,
+    level: u32,
+) -> Result<(SpliceTree, u32), Fault>
+    requires { level ≤ 257 }
+    ensures { Gives ((read tokens.now level).splice at) result }
+{
+    if level == TOO_DEEP {
+        return Err(Fault::Deep);
+    }
+    let reader = TypeReader {
+        alloc,
+        tokens,
+        level: level + 1,
+        expr: expression,
+    };
+    reader.splice(at)
+}
+
+/// The same for arguments with the parentheses around them ([expr.call]).
+pub fn args_at(
+    alloc: Global,
+    tokens: &Tokens,
+    at: u32,
+    level: u32,
+) -> Result<(ArgTrees, u32), Fault>
+    requires { level ≤ 257 }
+    ensures { Gives ((read tokens.now level).args at) result }
+{
+    if level == TOO_DEEP {
+        return Err(Fault::Deep);
+    }
+    let reader = ListReader {
+        types: TypeReader {
+            alloc,
+            tokens,
+            level: level + 1,
+            expr: expression,
+        },
+        braced: braced_at,
+    };
+    reader.args(at)
+}
