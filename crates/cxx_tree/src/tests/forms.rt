@@ -4,17 +4,25 @@ use crate::tests::build::{Make, at_line};
 use crate::tests::lists::{init_of, operations_of, suffixes_of};
 use crate::tests::types::type_of;
 use crate::{BinaryOp, Expr, Fund, IntegerLiteral, UnaryOp};
-use cxx_base::{Bytes, CompareOp, IntKind, IntOp};
+use cxx_base::{Bytes, CompareOp, IntKind, IntOp, Span};
 use sqlite_items::Boxed;
-use std::alloc::AllocError;
+use std::alloc::{AllocError, Global};
 use std::test::Fail;
 
 const FORMS: usize = 24;
 
-// How many trees of each form there are below: one, and for each part that can differ one more.
-const TREES: [u32; FORMS] = [
-    5, 2, 4, 2, 1, 1, 6, 1, 2, 2, 3, 2, 3, 4, 6, 2, 3, 4, 7, 3, 3, 3, 4, 6,
-];
+// How many trees of a form there are below: one, and for each part that can differ one more.
+fn trees_of(form: usize) -> u32 {
+    match form {
+        4 | 5 | 7 => 1,
+        1 | 3 | 8 | 9 | 11 | 15 => 2,
+        10 | 12 | 16 | 19 | 20 | 21 => 3,
+        2 | 13 | 17 | 22 => 4,
+        0 => 5,
+        6 | 14 | 23 => 6,
+        _ => 7,
+    }
+}
 
 const FIRST_NESTED: usize = 8;
 
@@ -206,44 +214,49 @@ fn braced_of(make: Make, part: u32) -> Result<Expr, AllocError> {
     Ok(Expr::Braced(make.span, boxed, Boxed::new(make.alloc, list)?))
 }
 
-#[test]
-fn compares_each_part(rt: HostRuntime) -> Result<(), Fail> {
-    let here = at_line(rt.alloc(), 1);
-    let there = at_line(rt.alloc(), 2);
-    for form in 0..FORMS {
-        let x = expr_of(here, form, 0)?;
-        for part in 0..TREES[form] {
-            let y = expr_of(there, form, part)?;
-            assert_eq!(rt; x.same(&y), part == 0, "form {form}, part {part}");
-        }
-    }
-    Ok(())
+// Whether an expression of a form is the same as one of another form, at another place, of which one part is another.
+fn is_same(alloc: Global, form: usize, other_form: usize, part: u32) -> Result<bool, AllocError> {
+    let x = expr_of(at_line(alloc, 1), form, 0)?;
+    let y = expr_of(at_line(alloc, 2), other_form, part)?;
+    Ok(x.same(&y))
 }
 
 #[test]
-fn tells_spans(rt: HostRuntime) -> Result<(), Fail> {
-    let here = at_line(rt.alloc(), 1);
+fn compares_each_part(rt: HostRuntime) -> Result<(), Fail> {
     for form in 0..FORMS {
-        let x = expr_of(here, form, 0)?;
-        assert!(rt; x.span() == here.span, "form {form}");
+        for part in 0..trees_of(form) {
+            let same = is_same(rt.alloc(), form, form, part)?;
+            assert_eq!(rt; same, part == 0, "form {form}, part {part}");
+        }
     }
     Ok(())
 }
 
 #[test]
 fn compares_forms(rt: HostRuntime) -> Result<(), Fail> {
-    let here = at_line(rt.alloc(), 1);
-    let there = at_line(rt.alloc(), 2);
     for form in 0..FORMS {
-        let x = expr_of(here, form, 0)?;
         for other_form in 0..FORMS {
-            let y = expr_of(there, other_form, 0)?;
+            let same = is_same(rt.alloc(), form, other_form, 0)?;
             assert_eq!(rt;
-                x.same(&y),
+                same,
                 form == other_form,
                 "form {form} and form {other_form}"
             );
         }
+    }
+    Ok(())
+}
+
+fn span_of(alloc: Global, form: usize) -> Result<Span, AllocError> {
+    Ok(expr_of(at_line(alloc, 1), form, 0)?.span())
+}
+
+#[test]
+fn tells_spans(rt: HostRuntime) -> Result<(), Fail> {
+    let here = at_line(rt.alloc(), 1).span;
+    for form in 0..FORMS {
+        let span = span_of(rt.alloc(), form)?;
+        assert!(rt; span == here, "form {form}");
     }
     Ok(())
 }

@@ -2,8 +2,9 @@
 
 use crate::tests::build::{Make, at_line};
 use crate::{ArgTree, BinaryOp, BracedTree, Designator, NewInit, Operation, Suffix};
+use cxx_base::Span;
 use sqlite_items::{Boxed, Items};
-use std::alloc::AllocError;
+use std::alloc::{AllocError, Global};
 use std::test::Fail;
 
 // Two suffixes, or another one second, or one.
@@ -108,16 +109,24 @@ fn designator_of(make: Make, which: u32) -> Result<Designator, AllocError> {
     })
 }
 
+fn suffixes_same(alloc: Global, i: u32, j: u32) -> Result<bool, AllocError> {
+    let x = suffix_of(at_line(alloc, 1), i)?;
+    let y = suffix_of(at_line(alloc, 2), j)?;
+    Ok(x.same(&y))
+}
+
+fn lists_same(alloc: Global, i: u32, j: u32) -> Result<bool, AllocError> {
+    let x = braced_of(at_line(alloc, 1), i)?;
+    let y = braced_of(at_line(alloc, 2), j)?;
+    Ok(x.same(&y))
+}
+
 #[test]
 fn compares_suffixes(rt: HostRuntime) -> Result<(), Fail> {
-    let here = at_line(rt.alloc(), 1);
-    let there = at_line(rt.alloc(), 2);
     for i in 0..SUFFIXES {
-        let x = suffix_of(here, i)?;
-        assert!(rt; x.span() == here.span, "the span of {i}");
         for j in 0..SUFFIXES {
-            let y = suffix_of(there, j)?;
-            assert_eq!(rt; x.same(&y), i == j, "{i} and {j}");
+            let same = suffixes_same(rt.alloc(), i, j)?;
+            assert_eq!(rt; same, i == j, "{i} and {j}");
         }
     }
     Ok(())
@@ -125,21 +134,65 @@ fn compares_suffixes(rt: HostRuntime) -> Result<(), Fail> {
 
 #[test]
 fn compares_braced_lists(rt: HostRuntime) -> Result<(), Fail> {
-    let here = at_line(rt.alloc(), 1);
-    let there = at_line(rt.alloc(), 2);
     for i in 0..LISTS {
-        let x = braced_of(here, i)?;
-        assert!(rt; x.span() == here.span, "the span of {i}");
         for j in 0..LISTS {
-            let y = braced_of(there, j)?;
-            assert_eq!(rt; x.same(&y), i == j, "{i} and {j}");
+            let same = lists_same(rt.alloc(), i, j)?;
+            assert_eq!(rt; same, i == j, "{i} and {j}");
         }
     }
-    assert!(rt; designator_of(there, 0)?.span() == there.span);
-    assert!(rt; designator_of(there, 3)?.span() == there.span);
-    assert!(rt; init_of(there, 4)?.get().span() == there.span);
-    assert!(rt; init_of(there, 5)?.get().span() == there.span);
-    assert!(rt; ArgTree::Expr(there.int(1)).span() == there.span);
-    assert!(rt; ArgTree::Braced(there.clauses(&[])?).span() == there.span);
+    Ok(())
+}
+
+fn suffix_span(make: Make, which: u32) -> Result<Span, AllocError> {
+    Ok(suffix_of(make, which)?.span())
+}
+
+fn list_span(make: Make, which: u32) -> Result<Span, AllocError> {
+    Ok(braced_of(make, which)?.span())
+}
+
+fn designator_span(make: Make, which: u32) -> Result<Span, AllocError> {
+    Ok(designator_of(make, which)?.span())
+}
+
+fn init_span(make: Make, part: u32) -> Result<Span, AllocError> {
+    Ok(init_of(make, part)?.get().span())
+}
+
+fn arg_span(make: Make) -> Span {
+    ArgTree::Expr(make.int(1)).span()
+}
+
+fn braced_arg_span(make: Make) -> Result<Span, AllocError> {
+    Ok(ArgTree::Braced(make.clauses(&[])?).span())
+}
+
+// Designators of both forms, initializers and arguments.
+fn part_span(make: Make, which: u32) -> Result<Span, AllocError> {
+    match which {
+        0 => designator_span(make, 0),
+        1 => designator_span(make, 3),
+        2 => init_span(make, 4),
+        3 => init_span(make, 5),
+        4 => Ok(arg_span(make)),
+        _ => braced_arg_span(make),
+    }
+}
+
+#[test]
+fn tells_spans(rt: HostRuntime) -> Result<(), Fail> {
+    let here = at_line(rt.alloc(), 1);
+    for i in 0..SUFFIXES {
+        let span = suffix_span(here, i)?;
+        assert!(rt; span == here.span, "the suffix {i}");
+    }
+    for i in 0..LISTS {
+        let span = list_span(here, i)?;
+        assert!(rt; span == here.span, "the list {i}");
+    }
+    for i in 0..6 {
+        let span = part_span(here, i)?;
+        assert!(rt; span == here.span, "the part {i}");
+    }
     Ok(())
 }
