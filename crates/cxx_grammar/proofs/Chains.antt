@@ -1,5 +1,5 @@
 -- A chain is its first operand and then its operations, and a postfix expression is its primary one and then its suffixes.
-use Rattle.std.proofs.Common.{◌≡◌, ℕ, zero, suc, ◌+◌, ◌-◌, ◌<◌, ◌≤◌, Bool, true, false, ◌==◌, [], Option, Some, None, ap, ◌∙◌, sym, refl, arith}
+use Rattle.std.proofs.Common.{◌≡◌, ℕ, zero, suc, ◌+◌, ◌-◌, ◌<◌, ◌≤◌, false, ◌==◌, [], Option, Some, None, ap, ◌∙◌, sym, refl, arith}
 use Rattle.std.proofs.lemmas.Bool.{ne_eqb}
 use Rattle.cxx_tree.specs.declared.expr.Expr.{Expr}
 use Rattle.cxx_tokens.specs.declared.token.Tokens.{Tokens}

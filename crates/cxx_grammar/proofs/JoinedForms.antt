@@ -1,30 +1,26 @@
 -- Forms that share a beginning give together what the joined form gives.
 use Rattle.std.proofs.Common.{◌≡◌, ℕ, ◌+◌, ◌<◌, Bool, true, false, ◌&&◌, if◌then◌else◌, Some, refl, sym, ◌∙◌, arith}
-use Rattle.cxx_tree.specs.declared.identifier.Identifier.{Identifier as IdentifierTree}
 use Rattle.cxx_tree.specs.declared.identifier.NameTree.{NameTree}
 use Rattle.cxx_tree.specs.declared.expr.Expr.{Expr}
 use Rattle.cxx_tree.specs.declared.expr.Expr.TheVariants as expr-of
 use Rattle.cxx_tree.specs.declared.expr.BasicTree.TheVariants as basic-of
 use Rattle.cxx_tree.specs.declared.expr.BracedTree.{BracedTree}
-use Rattle.cxx_tree.specs.declared.expr.Designator.TheVariants as designator-of
-use Rattle.cxx_tree.specs.declared.expr.Suffix.TheVariants as suffix-of
 use Rattle.cxx_tree.specs.declared.expr.NewInit.{NewInit}
 use Rattle.cxx_tree.specs.declared.expr.NewInit.TheVariants as init-of
 use Rattle.cxx_tokens.specs.declared.token.Tokens.{Tokens}
-use Rattle.cxx_tokens.specs.declared.mark.TheConstants.{LEFT_BRACE, LESS, DOT, EQUAL}
+use Rattle.cxx_tokens.specs.declared.mark.TheConstants.{LEFT_BRACE, LESS}
 use Rattle.cxx_tokens.specs.declared.keyword.TheConstants.{TYPENAME}
 use Rattle.cxx_reading.specs.declared.seen.Seen.TheVariants.{Identifier, Word, Punctuator}
 use Rattle.cxx_reading.specs.Extents.{EndsFrom, Rises}
-use Rattle.cxx_reading.specs.Reading.{End, Tree, No, Nothing, TooDeep, and_then, longer, or_none, optional, kind, span, word, punctuator, identifier, is_punctuator}
+use Rattle.cxx_reading.specs.Reading.{End, Tree, No, Nothing, TooDeep, and_then, longer, or_none, optional, kind, span, word, is_punctuator}
 use Rattle.cxx_reading.proofs.Starts.{is_that_punctuator, longer_nothing}
 use Rattle.cxx_reading.proofs.Choices.{longer_later}
 use Rattle.cxx_reading.proofs.Factor.{assoc, pointwise, factor, mapped}
 use Rattle.cxx_grammar.specs.Names.{vector_head, name, extracts, is_extract}
 use Rattle.cxx_grammar.specs.Fundamentals.{fund}
 use Rattle.cxx_grammar.specs.Types.{basic_fund, basic_name, basic_typename, basic, splice}
-use Rattle.cxx_grammar.specs.Lists.{arg, args, braced, designator_equal, designator_braced, designator}
+use Rattle.cxx_grammar.specs.Lists.{args, braced}
 use Rattle.cxx_grammar.specs.Primaries.{name_form, braced_form, fund_call_form, typename_call_form, extract_of, extract_form}
-use Rattle.cxx_grammar.specs.Postfixes.{arrow, member_suffix, member_splice_suffix}
 use Rattle.cxx_grammar.specs.Unaries.{init_args, init_braced, new_init}
 use Rattle.cxx_grammar.specs.Rules.{Rules}
 use Rattle.cxx_grammar.specs.Joined.{fund_made, typename_made, name_made, fund_rest, fund_joined, typename_rest, typename_joined, extract_rest, name_rest, named_rest, named_joined}

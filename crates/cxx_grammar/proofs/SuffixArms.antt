@@ -1,5 +1,5 @@
 -- At most one of the forms of a suffix begins with a token, or they are read as one.
-use Rattle.std.proofs.Common.{◌≡◌, ℕ, false, ◌||◌, Option, Some, None, refl, ◌∙◌}
+use Rattle.std.proofs.Common.{◌≡◌, ℕ, false, ◌||◌, Option, Some, None, refl}
 use Rattle.std.proofs.lemmas.Bool.{ne_eqb}
 use Rattle.cxx_tokens.specs.declared.token.Tokens.{Tokens}
 use Rattle.cxx_tokens.specs.declared.mark.TheConstants.{LEFT_PAREN, LEFT_BRACKET, DOT, ARROW}

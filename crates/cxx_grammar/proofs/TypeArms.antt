@@ -1,13 +1,13 @@
 -- At most one of the forms of a type begins with a token.
-use Rattle.std.proofs.Common.{◌≡◌, ℕ, Some, None, refl, sym, ◌∙◌}
+use Rattle.std.proofs.Common.{◌≡◌, ℕ, Some, None, refl}
 use Rattle.std.proofs.lemmas.Bool.{ne_eqb}
 use Rattle.cxx_base.specs.declared.operator.IntKind.TheVariants as int
 use Rattle.cxx_tree.specs.declared.types.Fund.TheVariants as fund_of
 use Rattle.cxx_tokens.specs.declared.token.Tokens.{Tokens}
 use Rattle.cxx_tokens.specs.declared.keyword.TheConstants.{VOID, BOOL, TYPENAME}
 use Rattle.cxx_reading.specs.declared.seen.Seen.TheVariants.{Identifier, Integer, Character, Text, Word, Punctuator}
-use Rattle.cxx_reading.specs.Reading.{End, Tree, No, Nothing, TooDeep, and_then, pure, kind, word}
-use Rattle.cxx_reading.proofs.Starts.{no_word_at, longer_nothing, longer_deep}
+use Rattle.cxx_reading.specs.Reading.{Tree, No, Nothing, and_then, pure, kind, word}
+use Rattle.cxx_reading.proofs.Starts.{no_word_at, longer_nothing}
 use Rattle.cxx_grammar.specs.Names.{vector_head, any_name, name}
 use Rattle.cxx_grammar.specs.Fundamentals.{number_type, fund}
 use Rattle.cxx_grammar.specs.Types.{basic_fund, basic_name, basic_vector, basic_typename, basic}

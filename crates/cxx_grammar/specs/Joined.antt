@@ -1,8 +1,7 @@
 -- Forms that share a beginning, each read as one, as the parsers read them. Nobody need believe this file: in proofs/ each
 -- is shown to give what the grammar's own forms give.
-use Rattle.std.specs.Prelude.{ℕ, zero, suc, Bool, if◌then◌else◌, [], Option, Some, None}
+use Rattle.std.specs.Prelude.{ℕ, zero, suc, if◌then◌else◌, [], Option, Some, None}
 use Rattle.cxx_base.specs.declared.place.Span.{Span}
-use Rattle.cxx_tree.specs.declared.identifier.Identifier.{Identifier}
 use Rattle.cxx_tree.specs.declared.identifier.NameTree.{NameTree}
 use Rattle.cxx_tree.specs.declared.types.Fund.{Fund}
 use Rattle.cxx_tree.specs.declared.expr.Expr.{Expr}
@@ -10,27 +9,22 @@ use Rattle.cxx_tree.specs.declared.expr.Expr.TheVariants as expr-of
 use Rattle.cxx_tree.specs.declared.expr.NewInit.{NewInit}
 use Rattle.cxx_tree.specs.declared.expr.NewInit.TheVariants as init-of
 use Rattle.cxx_tree.specs.declared.expr.SpliceTree.{SpliceTree}
-use Rattle.cxx_tree.specs.declared.expr.BasicTree.{BasicTree}
 use Rattle.cxx_tree.specs.declared.expr.BasicTree.TheVariants as basic-of
 use Rattle.cxx_tree.specs.declared.expr.TypeTree.{TypeTree}
 use Rattle.cxx_tree.specs.declared.expr.TypeTree.TheVariants as type-of
 use Rattle.cxx_tree.specs.declared.expr.BracedTree.{BracedTree}
-use Rattle.cxx_tree.specs.declared.expr.Designator.{Designator}
-use Rattle.cxx_tree.specs.declared.expr.Designator.TheVariants as designator-of
-use Rattle.cxx_tree.specs.declared.expr.Suffix.{Suffix}
-use Rattle.cxx_tree.specs.declared.expr.Suffix.TheVariants as suffix-of
 use Rattle.cxx_tokens.specs.declared.token.Tokens.{Tokens}
-use Rattle.cxx_tokens.specs.declared.mark.TheConstants.{DOT, EQUAL, AMPERSAND}
+use Rattle.cxx_tokens.specs.declared.mark.TheConstants.{AMPERSAND}
 use Rattle.cxx_tokens.specs.declared.keyword.TheConstants.{CONST, TYPENAME}
-use Rattle.cxx_reading.specs.Reading.{End, Tree, No, Nothing, TooDeep, Rule, and_then, ◌>>=◌, ◌>>◌, ◌<|>◌, pure, present, optional, punctuator, word, identifier, repeated, from, node, span}
+use Rattle.cxx_reading.specs.Reading.{End, Tree, No, Nothing, TooDeep, Rule, and_then, ◌>>=◌, ◌>>◌, ◌<|>◌, pure, present, optional, punctuator, word, repeated, from, node, span}
 use Rattle.cxx_grammar.specs.declared.parts.SizedOperand.{SizedOperand}
 use Rattle.cxx_grammar.specs.declared.parts.SizedOperand.TheVariants as sized-of
 use Rattle.cxx_grammar.specs.Names.{vector_head, name, extracts}
 use Rattle.cxx_grammar.specs.Fundamentals.{fund}
-use Rattle.cxx_grammar.specs.Types.{pointers, basic_name, basic_vector, splice, type_tree}
-use Rattle.cxx_grammar.specs.Lists.{arg, braced}
+use Rattle.cxx_grammar.specs.Types.{pointers, basic_vector, splice, type_tree}
+use Rattle.cxx_grammar.specs.Lists.{braced}
 use Rattle.cxx_grammar.specs.Primaries.{extract_of}
-use Rattle.cxx_grammar.specs.Postfixes.{with_suffixes, arrow, suffixes}
+use Rattle.cxx_grammar.specs.Postfixes.{with_suffixes, suffixes}
 use Rattle.cxx_grammar.specs.Unaries.{new_init}
 use Rattle.cxx_grammar.specs.Expressions.{with_operations, with_arms, operations_on, chain, arms, expr}
 use Rattle.cxx_grammar.specs.Rules.{Rules}

@@ -10,3 +10,7 @@ pub mod Expressions
 pub mod Read
 pub mod Rules
 pub mod Joined
+pub mod Sequences
+pub mod Statements
+pub mod Declarations
+pub mod Units

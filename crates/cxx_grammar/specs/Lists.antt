@@ -1,5 +1,5 @@
 -- Arguments ([expr.call]) and braced lists ([dcl.init.list], [dcl.init.aggr]).
-use Rattle.std.specs.Prelude.{ℕ, List, [], ◌∷◌, ◌++◌, Option, Some, None}
+use Rattle.std.specs.Prelude.{List, [], ◌∷◌, ◌++◌, Option, Some, None}
 use Rattle.cxx_base.specs.declared.place.Span.{Span}
 use Rattle.cxx_tree.specs.declared.expr.ArgTree.{ArgTree}
 use Rattle.cxx_tree.specs.declared.expr.ArgTree.TheVariants as arg-of

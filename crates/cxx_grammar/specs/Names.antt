@@ -1,12 +1,12 @@
 -- Names ([expr.prim.id]).
-use Rattle.std.specs.Prelude.{◌≡◌, ℕ, ◌-◌, Bool, true, false, ◌&&◌, if◌then◌else◌, ◌==◌, nat_le, List, [], ◌∷◌, ◌++◌, length, slice_get, Option, Some, None, codes, ◌+◌}
+use Rattle.std.specs.Prelude.{◌≡◌, ℕ, ◌-◌, Bool, false, ◌&&◌, ◌==◌, nat_le, List, [], ◌∷◌, ◌++◌, length, slice_get, Option, Some, None, codes}
 use Rattle.cxx_tree.specs.declared.identifier.Identifier.{Identifier}
 use Rattle.cxx_tree.specs.declared.identifier.NameTree.{NameTree}
 use Rattle.cxx_base.specs.Texts.{library_names}
 use Rattle.cxx_tokens.specs.declared.token.Tokens.{Tokens}
 use Rattle.cxx_tokens.specs.declared.mark.TheConstants.{SCOPE, LESS}
 use Rattle.cxx_reading.specs.Any.{unless}
-use Rattle.cxx_reading.specs.Reading.{End, Tree, No, Nothing, Rule, and_then, ◌>>=◌, ◌>>◌, pure, present, guard, punctuator, identifier, sees_punctuator, repeated, node}
+use Rattle.cxx_reading.specs.Reading.{Rule, ◌>>=◌, ◌>>◌, pure, present, guard, punctuator, identifier, sees_punctuator, repeated, node}
 use Rattle.cxx_grammar.specs.declared.library.TheConstants.{STD, VECTOR, EXTRACT}
 
 -- the numbers of the names that the grammar knows

@@ -1,5 +1,5 @@
 -- Operators ([expr.unary.op], [expr.mul] to [expr.log.or]).
-use Rattle.std.specs.Prelude.{ℕ, Bool, if◌then◌else◌, ◌==◌, Option, Some, None}
+use Rattle.std.specs.Prelude.{ℕ, if◌then◌else◌, ◌==◌, Option, Some, None}
 use Rattle.cxx_base.specs.declared.operator.IntOp.{IntOp}
 use Rattle.cxx_base.specs.declared.operator.IntOp.TheVariants as int
 use Rattle.cxx_base.specs.declared.operator.CompareOp.{CompareOp}

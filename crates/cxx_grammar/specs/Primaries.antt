@@ -1,6 +1,6 @@
 -- Primary expressions ([expr.prim]), with conversions in the functional notation ([expr.type.conv]) and casts
 -- ([expr.static.cast]).
-use Rattle.std.specs.Prelude.{ℕ, Bool, true, false, ◌&&◌, if◌then◌else◌}
+use Rattle.std.specs.Prelude.{true, false, if◌then◌else◌}
 use Rattle.cxx_base.specs.declared.place.Span.{Span}
 use Rattle.cxx_tree.specs.declared.expr.Expr.{Expr}
 use Rattle.cxx_tree.specs.declared.expr.Expr.TheVariants as expr-of
@@ -8,7 +8,7 @@ use Rattle.cxx_tree.specs.declared.identifier.NameTree.{NameTree}
 use Rattle.cxx_tokens.specs.declared.token.Tokens.{Tokens}
 use Rattle.cxx_tokens.specs.declared.mark.TheConstants.{LEFT_PAREN, RIGHT_PAREN, LESS, GREATER}
 use Rattle.cxx_tokens.specs.declared.keyword.TheConstants.{TRUE, FALSE, NULLPTR, THIS, TYPENAME, STATIC_CAST}
-use Rattle.cxx_reading.specs.Reading.{Rule, ◌>>=◌, ◌>>◌, ◌<|>◌, pure, guard, punctuator, word, integer, character, text, node, No, Nothing, Tree}
+use Rattle.cxx_reading.specs.Reading.{Rule, ◌>>=◌, ◌>>◌, ◌<|>◌, pure, punctuator, word, integer, character, text, node, No, Nothing, Tree}
 use Rattle.cxx_grammar.specs.Names.{name, extracts}
 use Rattle.cxx_grammar.specs.Fundamentals.{fund}
 use Rattle.cxx_grammar.specs.Types.{splice, basic, type_tree}

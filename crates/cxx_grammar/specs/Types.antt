@@ -1,6 +1,6 @@
 -- Types ([dcl.type.simple], [dcl.name]) and splices ([basic.splice], P2996R13). A rule over `deeper` is read one level above
 -- the rules of `deeper`, which read what stands in its brackets.
-use Rattle.std.specs.Prelude.{ℕ, Bool, ◌||◌, List, [], ◌∷◌, ◌++◌}
+use Rattle.std.specs.Prelude.{Bool, ◌||◌, List, [], ◌∷◌, ◌++◌}
 use Rattle.cxx_tree.specs.declared.expr.SpliceTree.{SpliceTree}
 use Rattle.cxx_tree.specs.declared.expr.SpliceTree.TheVariants as splice-of
 use Rattle.cxx_tree.specs.declared.expr.BasicTree.{BasicTree}

@@ -1,5 +1,4 @@
 -- Unary expressions ([expr.unary], [expr.sizeof], [expr.new], [expr.delete], [expr.reflect]).
-use Rattle.std.specs.Prelude.{ℕ, Bool, Option}
 use Rattle.cxx_base.specs.declared.place.Span.{Span}
 use Rattle.cxx_tree.specs.declared.expr.Expr.{Expr}
 use Rattle.cxx_tree.specs.declared.expr.Expr.TheVariants as expr-of

@@ -9,11 +9,13 @@ mod laws;
 mod library;
 mod operator;
 mod parts;
+mod specifier;
 mod words;
 
 pub use clause::{Clause, Clauses};
 pub use laws::library_names_are_places;
 pub use library::{EXTRACT, STD, VECTOR};
 pub use operator::Operator;
-pub use parts::{Arms, SizedOperand};
+pub use parts::{Arms, Range, SizedOperand};
+pub use specifier::DeclWords;
 pub use words::{Sign, TypeWords, Width};
