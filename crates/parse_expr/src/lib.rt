@@ -15,4 +15,6 @@ mod top;
 mod unary;
 
 pub use cxx_reading::Fault;
-pub use top::{args_at, braced_at, expression, name_at, splice_at, type_at, unary_at};
+pub use top::{
+    args_at, braced_at, expression, expression_behind, name_at, splice_at, type_at, unary_at,
+};

@@ -1,7 +1,8 @@
 //! The rules at each level.
 #![tactic(auto, using(cxx_grammar::proofs::Levels::levels))]
 
-ghost use Rattle.std.specs.Prelude.{◌≤◌};
+ghost use Rattle.std.specs.Prelude.{◌≤◌, ◌+◌};
+ghost use Rattle.cxx_grammar.specs.Joined.{expr_from};
 ghost use Rattle.cxx_grammar.specs.Read.{read};
 ghost use Rattle.cxx_grammar.specs.Unaries.{sized};
 ghost use Rattle.cxx_reading.specs.Reading.{Gives};
@@ -220,4 +221,37 @@ pub fn args_at(
         braced: braced_at,
     };
     reader.args(at)
+}
+
+/// What goes on behind a unary expression `first` that begins at token number `start` and ends before number `at`: the
+/// whole expression ([expr]) that begins with it, where there is one. Together with `unary_at` at the same level it is
+/// `expression`, so a form that begins with a unary expression, as an assignment does, need not be read twice.
+pub fn expression_behind(
+    alloc: Global,
+    tokens: &Tokens,
+    start: u32,
+    first: Expr,
+    at: u32,
+    level: u32,
+) -> Result<(Expr, u32), Fault>
+    requires { level ≤ 256 }
+    ensures { Gives (expr_from tokens.now (read tokens.now (level + 1)) start first at) result }
+{
+    let reader = ExprReader {
+        primaries: PrimaryReader {
+            lists: ListReader {
+                types: TypeReader {
+                    alloc,
+                    tokens,
+                    level: level + 1,
+                    expr: expression,
+                },
+                braced: braced_at,
+            },
+        },
+        unary: unary_at,
+        type_tree: type_at,
+        sized: sized_at,
+    };
+    reader.expr_from(start, first, at)
 }

@@ -1,5 +1,6 @@
 //! Fundamental types ([dcl.type.simple]).
 
+ghost use Rattle.std.specs.Prelude.{◌≡◌, IfErr};
 ghost use Rattle.cxx_grammar.specs.Fundamentals as spec;
 ghost use Rattle.cxx_reading.specs.Reading.{Gives};
 
@@ -13,7 +14,8 @@ use cxx_tree::Fund;
 
 #[tactic(auto, unfolding(cxx_grammar::specs::Fundamentals::type_word))]
 fn type_word(tokens: &Tokens, before: TypeWords, at: u32) -> Result<(TypeWords, u32), Fault>
-    ensures { Gives (spec.type_word tokens.now before at) result }
+    ensures gives { Gives (spec.type_word tokens.now before at) result }
+    ensures sure { IfErr result (λ fault. fault ≡ Fault.Syntax) }
 {
     let (word, end) = any_word(tokens, at)?;
     match with_word(before, word) {
@@ -28,7 +30,8 @@ fn more_type_words(
     mut found: TypeWords,
     mut at: u32,
 ) -> Result<(TypeWords, u32), Fault>
-    ensures { Gives (spec.more_type_words tokens.now found at) result }
+    ensures gives { Gives (spec.more_type_words tokens.now found at) result }
+    ensures sure { IfErr result (λ fault. fault ≡ Fault.Syntax) }
 {
     for _turn in 0..left(tokens, at) {
         match type_word(tokens, found, at) {
@@ -46,7 +49,8 @@ fn more_type_words(
 
 #[tactic(auto, unfolding(cxx_grammar::specs::Fundamentals::number_type))]
 fn number_type(tokens: &Tokens, at: u32) -> Result<(Fund, u32), Fault>
-    ensures { Gives (spec.number_type tokens.now at) result }
+    ensures gives { Gives (spec.number_type tokens.now at) result }
+    ensures sure { IfErr result (λ fault. fault ≡ Fault.Syntax) }
 {
     let no_words = TypeWords {
         sign: Sign::None,
@@ -58,10 +62,11 @@ fn number_type(tokens: &Tokens, at: u32) -> Result<(Fund, u32), Fault>
     Ok((named_by(words), end))
 }
 
-/// A fundamental type, as the grammar says.
+/// A fundamental type, as the grammar says. It takes no memory, so memory does not run out.
 #[tactic(auto, using(cxx_grammar::proofs::TypeArms::fund_arms))]
 pub fn fund(tokens: &Tokens, at: u32) -> Result<(Fund, u32), Fault>
-    ensures { Gives (spec.fund tokens.now at) result }
+    ensures gives { Gives (spec.fund tokens.now at) result }
+    ensures sure { IfErr result (λ fault. fault ≡ Fault.Syntax) }
 {
     match kind_at(tokens, at) {
         Some(Seen::Word(word)) => {

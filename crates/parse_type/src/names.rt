@@ -1,5 +1,6 @@
 //! Names ([expr.prim.id]).
 
+ghost use Rattle.std.specs.Prelude.{◌≡◌, IfErr};
 ghost use Rattle.cxx_grammar.specs.Names as spec;
 ghost use Rattle.cxx_reading.specs.Reading.{Gives, Steps};
 
@@ -34,9 +35,11 @@ pub fn vector_head(tokens: &Tokens, at: u32) -> Result<u32, Fault>
     expect(tokens, LESS, at)
 }
 
+/// `::` and the identifier behind it. Memory does not run out.
 #[tactic(auto, unfolding(cxx_grammar::specs::Names::part))]
-fn part(tokens: &Tokens, at: u32) -> Result<(Identifier, u32), Fault>
-    ensures { Gives (spec.part tokens.now at) result }
+pub fn part(tokens: &Tokens, at: u32) -> Result<(Identifier, u32), Fault>
+    ensures gives { Gives (spec.part tokens.now at) result }
+    ensures sure { IfErr result (λ fault. fault ≡ Fault.Syntax) }
 {
     let at = expect(tokens, SCOPE, at)?;
     identifier(tokens, at)
