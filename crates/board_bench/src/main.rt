@@ -2,7 +2,7 @@
 //! It is made to be timed from outside.
 #![tactic(auto)]
 
-use board_rows::{ThreadCount, settle_round};
+use board_callers::{ThreadCount, settle_round};
 use std::process::ExitCode;
 use std::rt::Env;
 use std::thread::Threads;

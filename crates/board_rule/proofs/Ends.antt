@@ -1,13 +1,13 @@
--- The stores that end a hold or a loan: settle, park, give back.
-use Rattle.std.proofs.Common.{◌≡◌, ◌≢◌, ◌⊎◌, ℕ, ◌+◌, ◌-◌, ◌<◌, ◌≤◌, ltb, lt-ltb, List, [], ◌∷◌, length, set, sym, refl, ap, ◌∙◌, subst, arith, true, cond, inl, inr, ⊎_elim, Some, None, length-set, get_or-set_same, get_or-set_other}
+-- Three stores after which a piece is with no seat: it is settled, parked, or its outcome is back.
+use Rattle.std.proofs.Common.{◌≡◌, ◌≢◌, ◌⊎◌, ℕ, ◌+◌, ◌-◌, ◌<◌, ◌≤◌, ltb, lt-ltb, List, [], ◌∷◌, length, set, sym, refl, ap, ◌∙◌, subst, arith, true, cond, ⊎_elim, Some, None, length-set, get_or-set_same, get_or-set_other}
 use mathlib.Core.Option.{some, none}
 use lib.ListN.{get_elem?}
 use Rattle.atomic_table.specs.Table.{State, step, gives, Allows}
 use Rattle.atomic_table.proofs.Lists.{set_here, set_else}
 use Rattle.settle_core.specs.Meant.{Meant, Lawful, outcome, reads}
 use Rattle.board_rule.specs.Maps.{is_it, IsAmong}
-use Rattle.board_rule.specs.Stages.{Stage, worked, waiting, ended, Reached}
-use Rattle.board_rule.specs.Standing.{Standing, held, parked, settled, lent, IsSettled, held_by, lent_to, next_read, word_of, home_of, steps_of, stage_of, IsSound}
+use Rattle.board_rule.specs.Stages.{Stage, worked, waiting, ended, states, Leads}
+use Rattle.board_rule.specs.Standing.{Standing, held, parked, settled, lent, IsSettled, IsBegun, held_by, lent_to, next_read, steps_at, taken_at, advanced_at, word_of, home_of, steps_of, stage_of, IsSound}
 use Rattle.board_rule.specs.Views.{hold_on, without, with_hand, after_settle, after_park, after_give_back}
 use Rattle.board_rule.specs.Rule.{work, OneState}
 use Rattle.board_rule.specs.Plays.{gave_back, settled as settles_view, parked as parks_view, CanPark}
@@ -19,7 +19,7 @@ use Rattle.board_rule.specs.declared.view.View.{View}
 use Rattle.board_rule.proofs.Maps.{same_no, hold_gone, hold_kept, at_length}
 use Rattle.board_rule.proofs.Standings.{IsFree, settled_ended, some_but}
 use Rattle.board_rule.proofs.Machine.{with_here, with_same, to_end, to_wait, still}
-use Rattle.board_rule.proofs.Moves.{Change, moves, spent_within}
+use Rattle.board_rule.proofs.Moves.{Change, Tells, tells_nothing, tells_one, moves, spent_within}
 use Rattle.board_rule.proofs.Knowing.{one_key}
 use Rattle.board_rule.proofs.Slots.{held_in_hand, lent_in_hand}
 
@@ -28,20 +28,21 @@ module _ {X T O : Type 0} (meant : X → Meant T O) (key : Key X) where
   m = meant key.meaning
 
   -- A held piece, whose slot is in hand, becomes p', which no seat has. The view after it is w
-  module _ (id k : ℕ) (v w : View X) (inside : k < m.pieces) (some_share : 0 < v.share) where
-    pub record Ended (h : Hold) (p' : Standing T) : Type 0 where
+  module _ (id k : ℕ) (v w : View X T) (inside : k < m.pieces) (some_share : 0 < v.share) where
+    pub record Ended (h : Hold T) (p' : Standing T) : Type 0 where
+      pub seen : Tells IsSettled k (held id h true) p' v.seen w.seen
+      pub begun : (w.begun ≡ v.begun) × IsBegun p'
       pub held : w.held ≡ without k v.held
       pub lent : w.lent ≡ v.lent
       pub hand : w.hand ≡ None
-      pub seen : (j : ℕ) → IsAmong j w.seen → IsAmong j v.seen ⊎ ((j ≡ k) × IsSettled p')
       pub marks : (w.stopped ≡ v.stopped) × (w.saw_stop ≡ v.saw_stop)
       pub share : w.share ≡ v.share
-      pub spent : w.spent + h.steps ≡ v.spent + steps_of m k p'
+      pub spent : w.spent + steps_at m h.claimed ≡ v.spent + steps_of m k p'
       pub free : IsFree p'
 
-    ending : (s : State (Home T O) (View X)) (r : OneState meant key s) → get_elem? s.views id ≡ some v → (h : Hold) (p' : Standing T) (word : ℕ) (y : Home T O)
+    ending : (s : State (Home T O) (View X T)) (r : OneState meant key s) → get_elem? s.views id ≡ some v → (h : Hold T) (p' : Standing T) (word : ℕ) (y : Home T O)
         → v.hand ≡ Some k → r.at k ≡ held id h true → word ≡ word_of m k p' → some y ≡ home_of m k p' → IsSound m r.at k p' → Ended h p'
-        → (Reached m (λ j. stage_of m (r.at j)) → (g : ℕ → Stage) → g k ≡ stage_of m p' → ((j : ℕ) → j ≢ k → g j ≡ stage_of m (r.at j)) → Reached m g)
+        → ((g : ℕ → Stage) → g k ≡ stage_of m p' → ((j : ℕ) → j ≢ k → g j ≡ stage_of m (r.at j)) → Leads m (states m (λ j. stage_of m (r.at j))) g)
         → Change meant key s r.at k id v w (held id h true) p' (set s.words k word) (set s.homes k (some y))
     ending s r seat h p' word y full was is home sound d leads = let mine = r.views id v seat in record {
       was = was;
@@ -53,7 +54,6 @@ module _ {X T O : Type 0} (meant : X → Meant T O) (key : Key X) where
       homes_long = length-set s.homes k (some y);
       home = set_here s.homes k (some y) (let l = r.deep in omega arith) ∙ ap some home;
       homes_else = λ j n. set_else s.homes k j (some y) n;
-      stays = λ z. absurd z;
       sound = sound;
       others = λ j n. (d.free.0 j ∙ sym (ap (λ b. cond b (Some h) None) (same_no id j (λ q. n (sym q)))), d.free.1 j, d.free.2 j ∙ sym (same_no id j (λ q. n (sym q))));
       below = d.free.3 (length s.views);
@@ -64,34 +64,35 @@ module _ {X T O : Type 0} (meant : X → Meant T O) (key : Key X) where
       hand_here = ap (λ z. is_it z k) d.hand ∙ sym (d.free.2 id);
       hand_else = λ j n. ap (λ z. is_it z j) d.hand ∙ some_but k j v.hand full n;
       seen = d.seen;
+      begun = subst (Tells IsBegun k (held id h true) p' v.begun) (sym d.begun.0) (tells_nothing IsBegun k (held id h true) p' v.begun (λ _. d.begun.1) (λ _. tt));
       marks = d.marks;
       share = (d.share, some_share);
       leads = leads;
       spent = d.spent;
     }
 
-  module _ (lawful : Lawful m) (slots id k : ℕ) (v : View X) (inside : k < m.pieces) (some_share : 0 < v.share) (c : List (ℕ × Home T O)) where
-    pub settles : (h : Hold) → v.about ≡ Some key → v.hand ≡ Some k → hold_on k v.held ≡ Some h
-        → ((i : ℕ) → i < length (reads m k) → (i < h.taken) ⊎ IsAmong (next_read m k i) v.seen)
+  module _ (lawful : Lawful m) (slots id k : ℕ) (v : View X T) (inside : k < m.pieces) (some_share : 0 < v.share) (c : List (ℕ × Home T O)) where
+    pub settles : (h : Hold T) → v.about ≡ Some key → v.hand ≡ Some k → hold_on k v.held ≡ Some h
+        → ((i : ℕ) → i < length (reads m k) → (i < taken_at m h.claimed) ⊎ IsAmong (next_read m k i) v.seen)
         → Allows (OneState meant key) slots id (v, (k, Outcome (outcome m k)) ∷ c) k (λ _. 3) (λ _. settles_view meant (step slots k 3 0 none) (v, (k, Outcome (outcome m k)) ∷ c) 3)
     settles h about full has past s r deep seat small = let was = held_in_hand meant key s r id k v seat h full has in
         let sound : IsSound m r.at k (held id h true) = subst (IsSound m r.at k) was (r.pieces k inside).sound in
-        let cheap : h.steps ≤ m.outcome_steps (outcome m k) = sound.1 in
+        let cheap : steps_at m h.claimed ≤ m.outcome_steps (outcome m k) = sound.1 in
         let mine = r.views id v seat in
-        let w : View X = with_hand None (after_settle k (m.outcome_steps (outcome m k) - h.steps) v) in
+        let w : View X T = with_hand None (after_settle k (m.outcome_steps (outcome m k) - steps_at m h.claimed) v) in
         let kept = moves meant key s r k id v w (held id h true) settled (set s.words k 3) (set s.homes k (some (Outcome (outcome m k))))
         (ending id k v w inside some_share s r seat h settled 3 (Outcome (outcome m k)) full was refl refl tt
-        (record { held = refl; lent = refl; hand = refl; seen = λ j z. ⊎_elim (λ (e : j ≡ k). inr (e, tt)) (λ (o : IsAmong j v.seen). inl o) z; marks = (refl, refl); share = refl; spent = omega arith; free = ((λ j. refl), (λ j. refl), (λ j. refl), (λ n. tt)) })
-        (λ rc g e z. with_same m lawful (λ j. stage_of m (r.at j)) k inside ended
-        (to_end m lawful (λ j. stage_of m (r.at j)) k inside id h.taken (length (reads m k) - h.taken) h.advanced (with_here m lawful (λ j. stage_of m (r.at j)) k inside (worked id h.taken h.advanced) rc (ap (stage_of m) was))
+        (record { held = refl; lent = refl; hand = refl; seen = tells_one IsSettled k (held id h true) settled v.seen tt; begun = (refl, tt); marks = (refl, refl); share = refl; spent = omega arith; free = ((λ j. refl), (λ j. refl), (λ j. refl), (λ n. tt)) })
+        (λ g e z. with_same m lawful (λ j. stage_of m (r.at j)) k inside ended
+        (to_end m lawful (λ j. stage_of m (r.at j)) k inside id (taken_at m h.claimed) (length (reads m k) - taken_at m h.claimed) (advanced_at m h.claimed) (with_here m lawful (λ j. stage_of m (r.at j)) k inside (worked id (taken_at m h.claimed) (advanced_at m h.claimed)) (ap (stage_of m) was))
         (let b = sound.0.within in omega arith)
-        (λ i l. settled_ended m k (r.at (next_read m k i)) (⊎_elim (λ (a : i < h.taken). sound.0.taken i a) (λ (a : IsAmong (next_read m k i) v.seen). mine.seen (next_read m k i) a) (past i (let b = sound.0.within in omega arith))))) g e z)) in (
+        (λ i l. settled_ended m k (r.at (next_read m k i)) (⊎_elim (λ (a : i < taken_at m h.claimed). sound.0.taken i a) (λ (a : IsAmong (next_read m k i) v.seen). mine.seen (next_read m k i) a) (past i (let b = sound.0.within in omega arith))))) g e z)) in (
           w,
           gives,
           tt,
           kept,
           λ x g a f. (let e : key ≡ x = one_key v.about key x about a in let q : h ≡ g = (let t : Some h ≡ Some g = sym has ∙ f in cc) in (
-            (λ i. (with_hand None (after_settle k ((meant (e i).meaning).outcome_steps (outcome (meant (e i).meaning) k) - (q i).steps) v), c)),
+            (λ i. (with_hand None (after_settle k ((meant (e i).meaning).outcome_steps (outcome (meant (e i).meaning) k) - steps_at (meant (e i).meaning) (q i).claimed) v), c)),
             subst (λ (z : Key X). w.spent ≤ work (meant z.meaning)) e
                 (spent_within meant key lawful record { words = set s.words k 3; homes = set s.homes k (some (Outcome (outcome m k))); views = set s.views id w } kept id w (set_here s.views id w (at_length s.views id v seat))),
           )),
@@ -105,30 +106,30 @@ module _ {X T O : Type 0} (meant : X → Meant T O) (key : Key X) where
     unfolding front
     one_task t u e = let q : ◌≡◌ {A = Home T O} (Task t) (Task u) = ap front e in cc
 
-    pub parks : (h : Hold) (t : T) (on : ℕ) → v.about ≡ Some key → v.hand ≡ Some k → hold_on k v.held ≡ Some h
-        → CanPark m k t → on ≡ next_read m k (m.taken t) → h.steps ≤ m.task_steps t → h.taken ≤ m.taken t → ((i : ℕ) → i < m.taken t → (i < h.taken) ⊎ IsAmong (next_read m k i) v.seen)
+    pub parks : (h : Hold T) (t : T) (on : ℕ) → v.about ≡ Some key → v.hand ≡ Some k → hold_on k v.held ≡ Some h
+        → CanPark m k t → on ≡ next_read m k (m.taken t) → steps_at m h.claimed ≤ m.task_steps t → taken_at m h.claimed ≤ m.taken t → ((i : ℕ) → i < m.taken t → (i < taken_at m h.claimed) ⊎ IsAmong (next_read m k i) v.seen)
         → Allows (OneState meant key) slots id (v, (k, Task t) ∷ c) k (λ _. 8 + on) (λ _. parks_view meant (step slots k (8 + on) 0 none) (v, (k, Task t) ∷ c) (8 + on))
     parks h t on about full has own next more further past s r deep seat small = let was = held_in_hand meant key s r id k v seat h full has in
         let sound : IsSound m r.at k (held id h true) = subst (IsSound m r.at k) was (r.pieces k inside).sound in
         let mark = lawful.marked k t inside own.0 own.1 in
         let mine = r.views id v seat in
-        let w : View X = with_hand None (after_park k (8 + on) (m.task_steps t - h.steps) v) in
+        let w : View X T = with_hand None (after_park k (8 + on) t (m.task_steps t - steps_at m h.claimed) v) in
         let kept = moves meant key s r k id v w (held id h true) (parked t) (set s.words k (8 + on)) (set s.homes k (some (Task t)))
         (ending id k v w inside some_share s r seat h (parked t) (8 + on) (Task t) full was (ap (λ (z : ℕ). 8 + z) next) refl
-        (record { within = lawful.within k t inside own.0; taken = λ i l. ⊎_elim (λ (a : i < h.taken). sound.0.taken i a) (λ (a : IsAmong (next_read m k i) v.seen). mine.seen (next_read m k i) a) (past i l); marked = λ l. mark }, own.1, own.0)
-        (record { held = refl; lent = refl; hand = refl; seen = λ j z. inl z; marks = (refl, refl); share = refl; spent = omega arith; free = ((λ j. refl), (λ j. refl), (λ j. refl), (λ n. tt)) })
-        (λ rc g e z. with_same m lawful (λ j. stage_of m (r.at j)) k inside (waiting (h.taken + (m.taken t - h.taken)) (m.advanced t))
-        (to_wait m lawful (λ j. stage_of m (r.at j)) k inside id h.taken (m.taken t - h.taken) h.advanced (m.advanced t) (with_here m lawful (λ j. stage_of m (r.at j)) k inside (worked id h.taken h.advanced) rc (ap (stage_of m) was))
+        (record { within = lawful.within k t inside own.0; taken = λ i l. ⊎_elim (λ (a : i < taken_at m h.claimed). sound.0.taken i a) (λ (a : IsAmong (next_read m k i) v.seen). mine.seen (next_read m k i) a) (past i l); marked = λ l. mark }, own.1, own.0)
+        (record { held = refl; lent = refl; hand = refl; seen = tells_nothing IsSettled k (held id h true) (parked t) v.seen (λ z. z) (λ z. z); begun = (refl, tt); marks = (refl, refl); share = refl; spent = omega arith; free = ((λ j. refl), (λ j. refl), (λ j. refl), (λ n. tt)) })
+        (λ g e z. with_same m lawful (λ j. stage_of m (r.at j)) k inside (waiting (taken_at m h.claimed + (m.taken t - taken_at m h.claimed)) (m.advanced t))
+        (to_wait m lawful (λ j. stage_of m (r.at j)) k inside id (taken_at m h.claimed) (m.taken t - taken_at m h.claimed) (advanced_at m h.claimed) (m.advanced t) (with_here m lawful (λ j. stage_of m (r.at j)) k inside (worked id (taken_at m h.claimed) (advanced_at m h.claimed)) (ap (stage_of m) was))
         (let b = own.1 in omega arith)
-        (λ i l. settled_ended m k (r.at (next_read m k i)) (⊎_elim (λ (a : i < h.taken). sound.0.taken i a) (λ (a : IsAmong (next_read m k i) v.seen). mine.seen (next_read m k i) a) (past i (omega arith))))
-        (λ q. (let z : m.taken t ≡ h.taken = omega arith in mark ∙ (ap (ltb 0) z ∙ sym (sound.0.marked (let b = own.1 in omega arith)))))
-        (λ q. mark ∙ lt-ltb 0 (m.taken t) (omega arith))) g (e ∙ (let z : m.taken t ≡ h.taken + (m.taken t - h.taken) = omega arith in ap (λ n. waiting n (m.advanced t)) z)) z)) in (
+        (λ i l. settled_ended m k (r.at (next_read m k i)) (⊎_elim (λ (a : i < taken_at m h.claimed). sound.0.taken i a) (λ (a : IsAmong (next_read m k i) v.seen). mine.seen (next_read m k i) a) (past i (omega arith))))
+        (λ q. (let z : m.taken t ≡ taken_at m h.claimed = omega arith in mark ∙ (ap (ltb 0) z ∙ sym (sound.0.marked (let b = own.1 in omega arith)))))
+        (λ q. mark ∙ lt-ltb 0 (m.taken t) (omega arith))) g (e ∙ (let z : m.taken t ≡ taken_at m h.claimed + (m.taken t - taken_at m h.claimed) = omega arith in ap (λ n. waiting n (m.advanced t)) z)) z)) in (
           w,
           gives,
           tt,
           kept,
           λ x g u a f is. (let e : key ≡ x = one_key v.about key x about a in let q : h ≡ g = (let t' : Some h ≡ Some g = sym has ∙ f in cc) in let z : t ≡ u = one_task t u is in (
-            (λ i. (with_hand None (after_park k (8 + on) ((meant (e i).meaning).task_steps (z i) - (q i).steps) v), c)),
+            (λ i. (with_hand None (after_park k (8 + on) (z i) ((meant (e i).meaning).task_steps (z i) - steps_at (meant (e i).meaning) (q i).claimed) v), c)),
             subst (λ (y : Key X). w.spent ≤ work (meant y.meaning)) e
                 (spent_within meant key lawful record { words = set s.words k (8 + on); homes = set s.homes k (some (Task t)); views = set s.views id w } kept id w (set_here s.views id w (at_length s.views id v seat))),
           )),
@@ -136,7 +137,7 @@ module _ {X T O : Type 0} (meant : X → Meant T O) (key : Key X) where
 
     pub gives_back : v.hand ≡ Some k → v.lent ≡ Some k → Allows (OneState meant key) slots id (v, (k, Outcome (outcome m k)) ∷ c) k (λ _. 3) (λ _. gave_back (step slots k 3 0 none) (v, (k, Outcome (outcome m k)) ∷ c) 3)
     gives_back full has s r deep seat small = let was = lent_in_hand meant key s r id k v seat full has in
-        let w : View X = with_hand None (after_give_back k v) in let mine = r.views id v seat in (
+        let w : View X T = with_hand None (after_give_back k v) in let mine = r.views id v seat in (
           w,
           gives,
           tt,
@@ -150,7 +151,6 @@ module _ {X T O : Type 0} (meant : X → Meant T O) (key : Key X) where
             homes_long = length-set s.homes k (some (Outcome (outcome m k)));
             home = set_here s.homes k (some (Outcome (outcome m k))) (let l = r.deep in omega arith);
             homes_else = λ j n. set_else s.homes k j (some (Outcome (outcome m k))) n;
-            stays = λ z. tt;
             sound = tt;
             others = λ j n. (refl, sym (same_no id j (λ q. n (sym q))), sym (same_no id j (λ q. n (sym q))));
             below = tt;
@@ -160,9 +160,10 @@ module _ {X T O : Type 0} (meant : X → Meant T O) (key : Key X) where
             lent_else = λ j n. some_but k j v.lent has n;
             hand_here = refl;
             hand_else = λ j n. some_but k j v.hand full n;
-            seen = λ j z. inl z;
+            seen = tells_nothing IsSettled k (lent id true) settled v.seen (λ _. tt) (λ _. tt);
+            begun = tells_nothing IsBegun k (lent id true) settled v.begun (λ _. tt) (λ _. tt);
             marks = (refl, refl);
-            leads = λ rc g e z. still m (λ j. stage_of m (r.at j)) g k ended (ap (stage_of m) was) e z rc;
+            leads = λ g e z. still m (λ j. stage_of m (r.at j)) g k ended (ap (stage_of m) was) e z;
             share = (refl, some_share);
             spent = refl;
           },

@@ -1,4 +1,4 @@
--- What a view knows of the word that its seat finds.
+-- Words that a seat may find, by what its view says.
 use Rattle.std.proofs.Common.{◌≡◌, ℕ, ◌<◌, ◌≤◌, get_or, sym, ap, ◌∙◌, subst, inl, inr, ⊎_elim, Option, Some, None, lt_of_not-le}
 use mathlib.Core.Option.{some}
 use mathlib.Core.Logic.{dite}
@@ -24,11 +24,11 @@ module _ {X T O : Type 0} (meant : X → Meant T O) (key : Key X) where
   abbrev m : Meant T O
   m = meant key.meaning
 
-  pub found_word : Lawful m → (s : State (Home T O) (View X)) (r : OneState meant key s) (k : ℕ) → k < m.pieces → IsWordOf k (get_or s.words k 0)
+  pub found_word : Lawful m → (s : State (Home T O) (View X T)) (r : OneState meant key s) (k : ℕ) → k < m.pieces → IsWordOf k (get_or s.words k 0)
   found_word lawful s r k inside = let o = r.pieces k inside in subst (IsWordOf k) (sym o.word) (is_word m k lawful inside r.at (r.at k) o.sound)
 
-  module _ (s : State (Home T O) (View X)) (r : OneState meant key s) (id k : ℕ) (v : View X) (seat : get_elem? s.views id ≡ some v) where
-    held_inside : (p : ℕ) (h : Hold) → hold_on p v.held ≡ Some h → p < m.pieces
+  module _ (s : State (Home T O) (View X T)) (r : OneState meant key s) (id k : ℕ) (v : View X T) (seat : get_elem? s.views id ≡ some v) where
+    held_inside : (p : ℕ) (h : Hold T) → hold_on p v.held ≡ Some h → p < m.pieces
     held_inside p h e = dite (dec_le m.pieces p)
         (λ (l : m.pieces ≤ p). (let q : None ≡ Some h = sym (ap (held_by id) (r.beyond p l)) ∙ (sym ((r.views id v seat).holds p) ∙ e) in absurd cc))
         (λ (n : m.pieces ≤ p → ⊥). lt_of_not-le n)

@@ -10,20 +10,20 @@ use Rattle.settle_core.specs.declared.piece_state.PieceState.TheVariants.{Fresh,
 use Rattle.settle_core.specs.declared.core_step.CoreStep.{CoreStep}
 use Rattle.settle_core.specs.declared.core_step.CoreStep.TheVariants.{Claim, Advance, Park, Resume, Settle}
 use Rattle.settle_core.specs.Next.{IsNext, firsts}
-use Rattle.settle_core.specs.State.{all_fresh, outcome_in, settled_at}
-use Rattle.settle_core.specs.Steps.{option_bind, named, made, after_advance, after_park, after_settle, stepped, replayed, IsReached}
+use Rattle.settle_core.specs.State.{outcome_in, settled_at}
+use Rattle.settle_core.specs.Steps.{option_bind, named, made, after_advance, after_park, after_settle, stepped, replayed}
 use Rattle.settle_core.proofs.Options.{some_injective, from_bind}
 use Rattle.settle_core.proofs.Tasks.{front_more}
 use Rattle.board_rule.specs.Maps.{put_at}
-use Rattle.board_rule.specs.Stages.{Stage, untouched, worked, waiting, ended, IsEnded, state_of, states, Reached}
+use Rattle.board_rule.specs.Stages.{Stage, untouched, worked, waiting, ended, IsEnded, state_of, states, Leads, Reached}
 use Rattle.board_rule.specs.Standing.{next_read}
 use Rattle.board_rule.proofs.Maps.{by_same, put_here, put_else, values_at, values_same, values_set, values_all}
 
 module _ {O : Type 0} (next : ℕ → List (ℕ × O) → NextOf O) where
-  replayed_more : (steps : List CoreStep) (s t u : List (PieceState O)) (step : CoreStep) → replayed next s steps ≡ Some t → stepped next t step ≡ Some u → replayed next s (steps ++ step ∷ []) ≡ Some u
-  replayed_more [] s t u step e h = ap (λ x. option_bind (stepped next x step) (λ v. replayed next v [])) (some_injective s t e) ∙ ap (λ o. option_bind o (λ v. replayed next v [])) h
-  replayed_more (x ∷ xs) s t u step e h = let v = from_bind (λ v. replayed next v xs) (stepped next s x) t e in
-      ap (λ o. option_bind o (λ w. replayed next w (xs ++ step ∷ []))) v.1 ∙ replayed_more xs v.0 t u step v.2 h
+  pub replayed_both : (before after : List CoreStep) (s t u : List (PieceState O)) → replayed next s before ≡ Some t → replayed next t after ≡ Some u → replayed next s (before ++ after) ≡ Some u
+  replayed_both [] after s t u e h = ap (λ x. replayed next x after) (some_injective s t e) ∙ h
+  replayed_both (x ∷ xs) after s t u e h = let v = from_bind (λ v. replayed next v xs) (stepped next s x) t e in
+      ap (λ o. option_bind o (λ w. replayed next w (xs ++ after))) v.1 ∙ replayed_both xs after v.0 t u v.2 h
 
   -- a step of the piece that it names
   stepped_to : (s : List (PieceState O)) (step : CoreStep) (p q : PieceState O) → slice_get s (named step) ≡ Some p → made next s step p ≡ Some q → stepped next s step ≡ Some (slice_set s (named step) q)
@@ -42,8 +42,16 @@ module _ {T O : Type 0} (m : Meant T O) where
   pub nothing_done : (f : ℕ → Stage) → ((k : ℕ) → f k ≡ untouched) → Reached m f
   nothing_done f h next law = ([], ap Some (sym (values_all Fresh m.pieces) ∙ values_same (λ _. Fresh) (λ k. state_of m k (f k)) m.pieces (λ k l. sym (ap (state_of m k) (h k)))))
 
-  pub reached_same : (f g : ℕ → Stage) → ((j : ℕ) → g j ≡ f j) → Reached m f → Reached m g
-  reached_same f g e r next law = subst (IsReached next m.pieces) (values_same (λ k. state_of m k (f k)) (λ k. state_of m k (g k)) m.pieces (λ k l. sym (ap (state_of m k) (e k)))) (r next law)
+  -- nothing leads anywhere else
+  pub leads_here : (f : ℕ → Stage) → Leads m (states m f) f
+  leads_here f next law = ([], refl)
+
+  -- one way after the other
+  pub leads_on : (from : List (PieceState O)) (f g : ℕ → Stage) → Leads m from f → Leads m (states m f) g → Leads m from g
+  leads_on from f g a b next law = let x = a next law in let y = b next law in (x.0 ++ y.0, replayed_both next x.0 y.0 from (states m f) (states m g) x.1 y.1)
+
+  leads_same : (from : List (PieceState O)) (f g : ℕ → Stage) → ((j : ℕ) → g j ≡ f j) → Leads m from f → Leads m from g
+  leads_same from f g e r next law = let x = r next law in (x.0, x.1 ∙ ap Some (values_same (λ k. state_of m k (f k)) (λ k. state_of m k (g k)) m.pieces (λ k l. sym (ap (state_of m k) (e k)))))
 
   ended_outcome : (j : ℕ) (p : Stage) → IsEnded p → outcome_in (Some (state_of m j p)) ≡ Some (outcome m j)
   ended_outcome j untouched h = absurd h
@@ -103,33 +111,33 @@ module _ {T O : Type 0} (m : Meant T O) where
       )
 
     -- one step of the piece k, and no other moves
-    pub one_more : Reached m f → Goes f k (f k) (g k) → ((j : ℕ) → j ≢ k → g j ≡ f j) → Reached m g
-    one_more r d others next law = let s = r next law in let x = made_by next law (f k) (g k) d in (
+    pub one_more : (from : List (PieceState O)) → Leads m from f → Goes f k (f k) (g k) → ((j : ℕ) → j ≢ k → g j ≡ f j) → Leads m from g
+    one_more from r d others next law = let s = r next law in let x = made_by next law (f k) (g k) d in (
       s.0 ++ x.0 ∷ [],
-      replayed_more next s.0 (all_fresh m.pieces) (states m f) (states m g) x.0 s.1
-          (stepped_to next (states m f) x.0 (state_of m k (f k)) (state_of m k (g k)) (ap (slice_get (states m f)) x.1 ∙ values_at (λ j. state_of m j (f j)) m.pieces k inside) x.2
-          ∙ ap Some (ap (λ z. slice_set (states m f) z (state_of m k (g k))) x.1 ∙ values_set (λ j. state_of m j (f j)) (λ j. state_of m j (g j)) m.pieces k inside (λ j l n. ap (state_of m j) (others j n)))),
+      replayed_both next s.0 (x.0 ∷ []) from (states m f) (states m g) s.1
+          (ap (λ o. option_bind o (λ v. replayed next v [])) (stepped_to next (states m f) x.0 (state_of m k (f k)) (state_of m k (g k)) (ap (slice_get (states m f)) x.1 ∙ values_at (λ j. state_of m j (f j)) m.pieces k inside) x.2
+          ∙ ap Some (ap (λ z. slice_set (states m f) z (state_of m k (g k))) x.1 ∙ values_set (λ j. state_of m j (f j)) (λ j. state_of m j (g j)) m.pieces k inside (λ j l n. ap (state_of m j) (others j n))))),
     )
 
   module _ (lawful : Lawful m) (f : ℕ → Stage) (k : ℕ) (inside : k < m.pieces) where
-    -- what f became, with p in the place of k
+    -- what f became, by steps from its state, with p in the place of k
     pub record With (p : Stage) : Type 0 where
       pub g : ℕ → Stage
-      pub reached : Reached m g
+      pub leads : Leads m (states m f) g
       pub here : g k ≡ p
       pub others : (j : ℕ) → j ≢ k → g j ≡ f j
 
-    abbrev pub with_here : (p : Stage) → Reached m f → f k ≡ p → With p
-    with_here p r e = record { g = f; reached = r; here = e; others = λ j n. refl }
+    abbrev pub with_here : (p : Stage) → f k ≡ p → With p
+    with_here p e = record { g = f; leads = leads_here f; here = e; others = λ j n. refl }
 
     -- from there to what has p in the place of k too
-    pub with_same : (p : Stage) → With p → (g' : ℕ → Stage) → g' k ≡ p → ((j : ℕ) → j ≢ k → g' j ≡ f j) → Reached m g'
-    with_same p a g' e h = reached_same a.g g' (λ j. by_same j k (λ (q : j ≡ k). subst (λ (z : ℕ). g' z ≡ a.g z) (sym q) (e ∙ sym a.here)) (λ (n : j ≢ k). h j n ∙ sym (a.others j n))) a.reached
+    pub with_same : (p : Stage) → With p → (g' : ℕ → Stage) → g' k ≡ p → ((j : ℕ) → j ≢ k → g' j ≡ f j) → Leads m (states m f) g'
+    with_same p a g' e h = leads_same (states m f) a.g g' (λ j. by_same j k (λ (q : j ≡ k). subst (λ (z : ℕ). g' z ≡ a.g z) (sym q) (e ∙ sym a.here)) (λ (n : j ≢ k). h j n ∙ sym (a.others j n))) a.leads
 
     pub with_more : (p q : Stage) → (a : With p) → Goes a.g k p q → With q
     with_more p q a d = record {
       g = put_at a.g k q;
-      reached = one_more lawful a.g (put_at a.g k q) k inside a.reached (subst (λ (x : Stage × Stage). Goes a.g k x.0 x.1) (λ i. (sym a.here i, sym (put_here a.g k q) i)) d) (λ j n. put_else a.g k q j n);
+      leads = one_more lawful a.g (put_at a.g k q) k inside (states m f) a.leads (subst (λ (x : Stage × Stage). Goes a.g k x.0 x.1) (λ i. (sym a.here i, sym (put_here a.g k q) i)) d) (λ j n. put_else a.g k q j n);
       here = put_here a.g k q;
       others = λ j n. put_else a.g k q j n ∙ a.others j n;
     }
@@ -138,9 +146,9 @@ module _ {T O : Type 0} (m : Meant T O) where
     read_stays : (p : Stage) (a : With p) (n : ℕ) → n < length (reads m k) → IsEnded (f (next_read m k n)) → IsEnded (a.g (next_read m k n))
     read_stays p a n l h = subst IsEnded (sym (a.others (next_read m k n) (λ q. (let b = lawful.below k n inside l in omega arith)))) h
 
-    -- a task takes d reads more, which have all ended
+    -- d advances in a row, by outcomes that are all there
     takes_all : (i n d : ℕ) (a : Bool) → With (worked i n a) → n + d ≤ length (reads m k) → ((j : ℕ) → j < n + d → IsEnded (f (next_read m k j))) → (b : Bool) → (d ≡ 0 → b ≡ a) → (0 < d → b ≡ true) → With (worked i (n + d) b)
-    takes_all i n zero a w l all b same up = record { g = w.g; reached = w.reached; here = w.here ∙ (λ z. worked i (e z) (sym (same refl) z)); others = w.others }
+    takes_all i n zero a w l all b same up = record { g = w.g; leads = w.leads; here = w.here ∙ (λ z. worked i (e z) (sym (same refl) z)); others = w.others }
       where
         e : n ≡ n + 0
         e = omega arith
@@ -165,5 +173,5 @@ module _ {T O : Type 0} (m : Meant T O) where
     to_wait i n d a b w l all same up = with_more (worked i (n + d) b) (waiting (n + d) b) (takes_all i n d a w (omega arith) all b same up) (waits i (n + d) b refl l refl)
 
   -- no stage changes
-  pub still : (f g : ℕ → Stage) (k : ℕ) (p : Stage) → f k ≡ p → g k ≡ p → ((j : ℕ) → j ≢ k → g j ≡ f j) → Reached m f → Reached m g
-  still f g k p a b h r = reached_same f g (λ j. by_same j k (λ (q : j ≡ k). subst (λ (z : ℕ). g z ≡ f z) (sym q) (b ∙ sym a)) (λ (n : j ≢ k). h j n)) r
+  pub still : (f g : ℕ → Stage) (k : ℕ) (p : Stage) → f k ≡ p → g k ≡ p → ((j : ℕ) → j ≢ k → g j ≡ f j) → Leads m (states m f) g
+  still f g k p a b h = leads_same (states m f) f g (λ j. by_same j k (λ (q : j ≡ k). subst (λ (z : ℕ). g z ≡ f z) (sym q) (b ∙ sym a)) (λ (n : j ≢ k). h j n)) (leads_here f)

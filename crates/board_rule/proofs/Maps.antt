@@ -1,11 +1,12 @@
--- Functions that change at one place, lists of values, sums, and lists of holds.
+-- What `put_at`, `values`, `total` and `HasSome` give, and which hold a list has on a piece.
 use Rattle.std.proofs.Common.{◌≡◌, ◌≢◌, ◌⊎◌, ℕ, zero, suc, ◌+◌, ◌<◌, ◌≤◌, List, [], ◌∷◌, ◌++◌, length, replicate, set, slice_get, slice_set, sym, refl, ap, ◌∙◌, subst, arith, Bool, true, false, cond, eq-eqb, ne_eqb, inl, inr, ⊎_elim, Some, None}
 use mathlib.Core.Option.{some, some-injective, some-ne-none}
 use mathlib.Core.Logic.{dite}
 use native.Mathlib.Decide.{ℕ_discrete}
 use lib.ListN.{get_elem?}
+use Rattle.atomic_table.proofs.Lists.{at_longer, set_here, set_else}
 use Rattle.settle_core.specs.Bound.{sum_below}
-use Rattle.board_rule.specs.Maps.{is_same, IsAmong, put_at, values, total}
+use Rattle.board_rule.specs.Maps.{is_same, IsAmong, HasSome, put_at, values, total}
 use Rattle.board_rule.specs.Standing.{Standing, fresh, held, parked, settled, lent, SeatBelow}
 use Rattle.board_rule.specs.Views.{hold_on, without}
 use Rattle.board_rule.specs.declared.view.Hold.{Hold}
@@ -31,7 +32,7 @@ module _ {A : Type 0} (f : ℕ → A) (k : ℕ) (x : A) where
   unfolding put_at
   put_else j n = ap (λ b. cond b x (f j)) (same_no j k n)
 
-  -- what holds of x at k, and of f everywhere else
+  -- by cases: k itself, which has x, and each other number, which has what f gave
   pub put_all : (P : ℕ → A → Type 0) → P k x → ((j : ℕ) → j ≢ k → P j (f j)) → (j : ℕ) → P j (put_at f k x j)
   put_all P here others j = by_same j k
       (λ (e : j ≡ k). subst (λ (i : ℕ). P i (put_at f k x i)) (sym e) (subst (P k) (sym put_here) here))
@@ -72,6 +73,26 @@ module _ {A : Type 0} where
   at_end [] a b (suc j) e = absurd (some-ne-none b (sym e))
   at_end (x ∷ xs) a b zero e = inl e
   at_end (x ∷ xs) a b (suc j) e = ⊎_elim (λ t. inl t) (λ t. inr (ap suc t.0, t.1)) (at_end xs a b j e)
+
+  -- some element has it still where another one takes the place of v, which has it where v does
+  pub some_kept : (P : A → Type 0) (l : List A) (i : ℕ) (v w : A) → get_elem? l i ≡ some v → (P v → P w) → HasSome P l → HasSome P (set l i w)
+  some_kept P l i v w at keeps h = by_same h.0 i
+      (λ (e : h.0 ≡ i). (i, w, set_here l i w (at_length l i v at), keeps (subst P (some-injective h.1 v (sym h.2 ∙ (ap (get_elem? l) e ∙ at))) h.3)))
+      (λ (n : h.0 ≢ i). (h.0, h.1, set_else l i h.0 w n ∙ h.2, h.3))
+
+  pub some_longer : (P : A → Type 0) (l m : List A) → HasSome P l → HasSome P (l ++ m)
+  some_longer P l m h = (h.0, h.1, at_longer l m h.0 h.1 h.2, h.3)
+
+  -- one that has it where u or v does takes the place of v, and one that need not have it that of u
+  pub some_joined : (P : A → Type 0) (l : List A) (i j : ℕ) (v u w g : A) → j ≢ i → get_elem? l i ≡ some v → get_elem? l j ≡ some u → (P v → P w) → (P u → P w) → HasSome P l → HasSome P (set (set l i w) j g)
+  some_joined P l i j v u w g apart at other keeps takes h = by_same h.0 j
+      (λ (e : h.0 ≡ j). here (takes (subst P (some-injective h.1 u (sym h.2 ∙ (ap (get_elem? l) e ∙ other))) h.3)))
+      (λ (n : h.0 ≢ j). by_same h.0 i
+      (λ (e : h.0 ≡ i). here (keeps (subst P (some-injective h.1 v (sym h.2 ∙ (ap (get_elem? l) e ∙ at))) h.3)))
+      (λ (d : h.0 ≢ i). (h.0, h.1, set_else (set l i w) j h.0 g n ∙ (set_else l i h.0 w d ∙ h.2), h.3)))
+    where
+      here : P w → HasSome P (set (set l i w) j g)
+      here p = (i, w, set_else (set l i w) j i g (λ e. apart (sym e)) ∙ set_here l i w (at_length l i v at), p)
 
 module _ {A : Type 0} (f : A → ℕ) where
   pub total_set : (l : List A) (i : ℕ) (v w : A) → get_elem? l i ≡ some v → total f (set l i w) + f v ≡ total f l + f w
@@ -117,7 +138,7 @@ pub sum_of_none : (n : ℕ) → sum_below (λ _. 0) n ≡ 0
 sum_of_none zero = refl
 sum_of_none (suc n) = let h = sum_of_none n in omega arith
 
--- a sum of which one term changes
+-- the sum after f got x at k: what k had goes out, what it has now comes in
 pub sum_put : {A : Type 0} (w : ℕ → A → ℕ) (f : ℕ → A) (k : ℕ) (x : A) (n : ℕ) → k < n → sum_below (λ j. w j (put_at f k x j)) n + w k (f k) ≡ sum_below (λ j. w j (f j)) n + w k x
 sum_put w f k x zero l = absurd (omega arith)
 sum_put w f k x (suc n) l = by_same k n
@@ -126,20 +147,20 @@ sum_put w f k x (suc n) l = by_same k n
     let c = sums_equal (λ j. w j (put_at f k x j)) (λ j. w j (f j)) n (λ j h. ap (w j) (put_else f k x j (λ q. omega arith))) in omega arith)
     (λ (d : k ≢ n). let a : w n (put_at f k x n) ≡ w n (f n) = ap (w n) (put_else f k x n (λ q. d (sym q))) in let c = sum_put w f k x n (omega arith) in omega arith)
 
-module _ (h : Hold) (hs : List Hold) (j : ℕ) where
+module _ {T : Type 0} (h : Hold T) (hs : List (Hold T)) (j : ℕ) where
   pub hold_here : h.piece ≡ j → hold_on j (h ∷ hs) ≡ Some h
   hold_here e = ap (λ b. cond b (Some h) (hold_on j hs)) (same_yes h.piece j e)
 
   pub hold_else : h.piece ≢ j → hold_on j (h ∷ hs) ≡ hold_on j hs
   hold_else n = ap (λ b. cond b (Some h) (hold_on j hs)) (same_no h.piece j n)
 
-pub hold_gone : (k : ℕ) (hs : List Hold) → hold_on k (without k hs) ≡ None
+pub hold_gone : {T : Type 0} (k : ℕ) (hs : List (Hold T)) → hold_on k (without k hs) ≡ None
 hold_gone k [] = refl
 hold_gone k (h ∷ hs) = by_same h.piece k
     (λ (e : h.piece ≡ k). subst (λ (b : Bool). hold_on k (cond b (without k hs) (h ∷ without k hs)) ≡ None) (sym (same_yes h.piece k e)) (hold_gone k hs))
     (λ (n : h.piece ≢ k). subst (λ (b : Bool). hold_on k (cond b (without k hs) (h ∷ without k hs)) ≡ None) (sym (same_no h.piece k n)) (hold_else h (without k hs) k n ∙ hold_gone k hs))
 
-pub hold_kept : (k j : ℕ) (hs : List Hold) → j ≢ k → hold_on j (without k hs) ≡ hold_on j hs
+pub hold_kept : {T : Type 0} (k j : ℕ) (hs : List (Hold T)) → j ≢ k → hold_on j (without k hs) ≡ hold_on j hs
 hold_kept k j [] n = refl
 hold_kept k j (h ∷ hs) n = by_same h.piece k
     (λ (e : h.piece ≡ k). subst (λ (b : Bool). hold_on j (cond b (without k hs) (h ∷ without k hs)) ≡ hold_on j (h ∷ hs)) (sym (same_yes h.piece k e)) (hold_kept k j hs n ∙ sym (hold_else h hs j (λ q. n (sym q ∙ e)))))

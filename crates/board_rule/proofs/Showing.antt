@@ -1,5 +1,5 @@
 -- The rule shows one state and no other, and this is sound.
-use Rattle.std.proofs.Common.{◌≡◌, ◌≢◌, ℕ, zero, suc, ◌+◌, ◌<◌, List, [], ◌∷◌, length, get_or, slice_get, cond, Bool, true, false, Option, Some, None, sym, refl, ap, ◌∙◌, subst, arith, inl, inr}
+use Rattle.std.proofs.Common.{◌≡◌, ◌≢◌, ℕ, zero, suc, ◌+◌, ◌<◌, List, [], ◌∷◌, length, get_or, slice_get, cond, Bool, true, false, Option, Some, None, sym, refl, ap, ◌∙◌, subst, arith, ◌⊎◌, ◌↔◌, inl, inr, ⊎_elim}
 use Rattle.std.proofs.lemmas.Option.{slice_get_within}
 use mathlib.Core.Option.{some}
 use lib.ListN.{get_elem?}
@@ -12,19 +12,19 @@ use Rattle.settle_core.specs.Next.{next_by_reads}
 use Rattle.settle_core.proofs.NextByReads.{is_next}
 use Rattle.settle_core.proofs.Options.{some_injective}
 use Rattle.settle_core.proofs.Replays.{fresh_sound, all_sound}
-use Rattle.board_rule.specs.Maps.{is_it, values}
+use Rattle.board_rule.specs.Maps.{is_it, IsAmong, HasSome, values}
 use Rattle.board_rule.specs.Stages.{Stage, untouched, worked, waiting, ended, IsEnded, state_of, states}
-use Rattle.board_rule.specs.Standing.{Standing, fresh, held, parked, settled, lent, held_by, lent_to, in_hand_of, SeatBelow, next_read, word_of, home_of, stage_of, IsSound}
+use Rattle.board_rule.specs.Standing.{Standing, fresh, held, parked, settled, lent, IsBegun, held_by, lent_to, in_hand_of, SeatBelow, next_read, word_of, home_of, steps_of, stage_of, IsSound}
 use Rattle.board_rule.specs.Views.{hold_on}
 use Rattle.board_rule.specs.Rule.{OneState}
-use Rattle.board_rule.specs.Shows.{HasSlot, ShowsAt, Shows, ShowsSound}
+use Rattle.board_rule.specs.Shows.{HasSlot, NoneHolds, NoneBorrows, ShowsAt, Shows, ShowsSound, ViewsTell, StandsFor, SumsUp}
 use Rattle.board_rule.specs.declared.home.Home.{Home}
 use Rattle.board_rule.specs.declared.home.Home.TheVariants.{Task, Outcome}
 use Rattle.board_rule.specs.declared.view.Hold.{Hold}
 use Rattle.board_rule.specs.declared.view.Key.{Key}
 use Rattle.board_rule.specs.declared.view.View.{View}
 use Rattle.board_rule.proofs.Maps.{by_same, same_yes, same_no, values_at, elem_below}
-use Rattle.board_rule.proofs.Standings.{fresh_word, settled_word, parked_word, word_settled, settled_ended, held_view}
+use Rattle.board_rule.proofs.Standings.{fresh_word, settled_word, parked_word, word_settled, settled_has, settled_ended, held_view}
 
 module _ {A : Type 0} where
   values_length : (f : ℕ → A) (n : ℕ) → length (values f n) ≡ n
@@ -42,7 +42,7 @@ it_is : (o : Option ℕ) (k : ℕ) → is_it o k ≡ true → o ≡ Some k
 it_is None k e = absurd cc
 it_is (Some j) k e = by_same j k (λ (q : j ≡ k). ap (λ z. Some z) q) (λ (n : j ≡ k → ⊥). let t : false ≡ true = sym (same_no j k n) ∙ e in absurd cc)
 
-module _ {X T O : Type 0} (meant : X → Meant T O) (key : Key X) (s : State (Home T O) (View X)) (r : OneState meant key s) where
+module _ {X T O : Type 0} (meant : X → Meant T O) (key : Key X) (s : State (Home T O) (View X T)) (r : OneState meant key s) where
   abbrev m : Meant T O
   m = meant key.meaning
 
@@ -56,31 +56,71 @@ module _ {X T O : Type 0} (meant : X → Meant T O) (key : Key X) (s : State (Ho
     home_is : (p : Standing T) → r.at k ≡ p → get_elem? s.homes k ≡ some (home_of m k p)
     home_is p e = (r.pieces k inside).home ∙ ap (λ q. some (home_of m k q)) e
 
-    held_slot : (i : ℕ) (h : Hold) (b : Bool) (v : View X) → get_elem? s.views i ≡ some v → r.at k ≡ held i h b → HasSlot m s k v
+    held_slot : (i : ℕ) (h : Hold T) (b : Bool) (v : View X T) → get_elem? s.views i ≡ some v → r.at k ≡ held i h b → HasSlot m s k v
     held_slot i h false v at e = inl (home_is (held i h false) e)
     held_slot i h true v at e = inr (home_is (held i h true) e, it_is v.hand k ((r.views i v at).hands k ∙ (ap (in_hand_of i) e ∙ same_yes i i refl)))
 
-    lent_slot : (i : ℕ) (b : Bool) (v : View X) → get_elem? s.views i ≡ some v → r.at k ≡ lent i b → HasSlot m s k v
+    lent_slot : (i : ℕ) (b : Bool) (v : View X T) → get_elem? s.views i ≡ some v → r.at k ≡ lent i b → HasSlot m s k v
     lent_slot i false v at e = inl (home_is (lent i false) e)
     lent_slot i true v at e = inr (home_is (lent i true) e, it_is v.hand k ((r.views i v at).hands k ∙ (ap (in_hand_of i) e ∙ same_yes i i refl)))
 
-    one_holder : (i : ℕ) (h : Hold) (b : Bool) → r.at k ≡ held i h b → (j : ℕ) (u : View X) (g : Hold) → get_elem? s.views j ≡ some u → hold_on k u.held ≡ Some g → j ≡ i
+    one_holder : (i : ℕ) (h : Hold T) (b : Bool) → r.at k ≡ held i h b → (j : ℕ) (u : View X T) (g : Hold T) → get_elem? s.views j ≡ some u → hold_on k u.held ≡ Some g → j ≡ i
     one_holder i h b e j u g at has = by_same j i (λ (q : j ≡ i). q)
         (λ (n : j ≢ i). let t : None ≡ Some g = sym (ap (λ z. cond z (Some h) None) (same_no i j (λ q. n (sym q)))) ∙ (sym (ap (held_by j) e) ∙ (sym ((r.views j u at).holds k) ∙ has)) in absurd cc)
 
-    one_borrower : (i : ℕ) (b : Bool) → r.at k ≡ lent i b → (j : ℕ) (u : View X) → get_elem? s.views j ≡ some u → u.lent ≡ Some k → j ≡ i
+    one_borrower : (i : ℕ) (b : Bool) → r.at k ≡ lent i b → (j : ℕ) (u : View X T) → get_elem? s.views j ≡ some u → u.lent ≡ Some k → j ≡ i
     one_borrower i b e j u at has = by_same j i (λ (q : j ≡ i). q)
         (λ (n : j ≢ i). let t : false ≡ true = sym (same_no i j (λ q. n (sym q))) ∙ (sym (ap (lent_to j) e) ∙ (sym ((r.views j u at).loans k) ∙ (ap (λ z. is_it z k) has ∙ same_yes k k refl))) in absurd cc)
 
+    none_holds : (p : Standing T) → r.at k ≡ p → ((j : ℕ) → held_by j p ≡ None) → NoneHolds m s k
+    none_holds p e none j u at = (r.views j u at).holds k ∙ (ap (held_by j) e ∙ none j)
+
+    none_borrows : (p : Standing T) → r.at k ≡ p → ((j : ℕ) → lent_to j p ≡ false) → NoneBorrows m s k
+    none_borrows p e none j u at has = let t : false ≡ true = sym (none j) ∙ (sym (ap (lent_to j) e) ∙ (sym ((r.views j u at).loans k) ∙ (ap (λ z. is_it z k) has ∙ same_yes k k refl))) in absurd cc
+
     shows_at : (p : Standing T) → r.at k ≡ p → ShowsAt m s k (state_of m k (stage_of m p))
-    shows_at fresh e = (word_is fresh e, home_is fresh e)
+    shows_at fresh e = (word_is fresh e, home_is fresh e, none_holds fresh e (λ _. refl), none_borrows fresh e (λ _. refl))
     shows_at (held i h b) e = let u = elem_below s.views i (subst (SeatBelow (length s.views)) e (r.seated k)) in
-        (word_is (held i h b) e, (u.0, h, u.1, (r.views i u.0 u.1).holds k ∙ (ap (held_by i) e ∙ ap (λ z. cond z (Some h) None) (same_yes i i refl)), refl, refl, held_slot i h b u.0 u.1 e, one_holder i h b e))
+        (word_is (held i h b) e, (u.0, h, u.1, (r.views i u.0 u.1).holds k ∙ (ap (held_by i) e ∙ ap (λ z. cond z (Some h) None) (same_yes i i refl)), refl, refl, held_slot i h b u.0 u.1 e, one_holder i h b e), none_borrows (held i h b) e (λ _. refl))
     shows_at (parked t) e = let sound : IsSound m r.at k (parked t) = subst (IsSound m r.at k) e (r.pieces k inside).sound in
-        (word_is (parked t) e, (t, home_is (parked t) e, sound.2, refl, refl))
-    shows_at settled e = inl (word_is settled e, home_is settled e)
+        (word_is (parked t) e, (t, home_is (parked t) e, sound.2, refl, refl), none_holds (parked t) e (λ _. refl), none_borrows (parked t) e (λ _. refl))
+    shows_at settled e = (none_holds settled e (λ _. refl), inl (word_is settled e, home_is settled e, none_borrows settled e (λ _. refl)))
     shows_at (lent i b) e = let u = elem_below s.views i (subst (SeatBelow (length s.views)) e (r.seated k)) in
-        inr (word_is (lent i b) e, refl, (i, u.0, u.1, it_is u.0.lent k ((r.views i u.0 u.1).loans k ∙ (ap (lent_to i) e ∙ same_yes i i refl)), lent_slot i b u.0 u.1 e, one_borrower i b e))
+        (none_holds (lent i b) e (λ _. refl), inr (word_is (lent i b) e, refl, (i, u.0, u.1, it_is u.0.lent k ((r.views i u.0 u.1).loans k ∙ (ap (lent_to i) e ∙ same_yes i i refl)), lent_slot i b u.0 u.1 e, one_borrower i b e)))
+
+    stands_for : (p : Standing T) → r.at k ≡ p → StandsFor m s k (steps_of m k p)
+    stands_for fresh e = inl (word_is fresh e, refl)
+    stands_for (held i h b) e = let u = elem_below s.views i (subst (SeatBelow (length s.views)) e (r.seated k)) in
+        inr (inl (word_is (held i h b) e, (i, u.0, h, u.1, (r.views i u.0 u.1).holds k ∙ (ap (held_by i) e ∙ ap (λ z. cond z (Some h) None) (same_yes i i refl)), refl)))
+    stands_for (parked t) e = inr (inr (inl ((let w = word_is (parked t) e in omega arith), (t, home_is (parked t) e, refl))))
+    stands_for settled e = inr (inr (inr (inl (word_is settled e), refl)))
+    stands_for (lent i b) e = inr (inr (inr (inr (word_is (lent i b) e), refl)))
+
+    begun_word : (p : Standing T) → IsBegun p → word_of m k p ≢ 0
+    begun_word fresh h e = h
+    begun_word (held i h b) d e = omega arith
+    begun_word (parked t) d e = omega arith
+    begun_word settled d e = omega arith
+    begun_word (lent i b) d e = omega arith
+
+    word_begun : (p : Standing T) → word_of m k p ≢ 0 → IsBegun p
+    word_begun fresh n = n refl
+    word_begun (held i h b) n = tt
+    word_begun (parked t) n = tt
+    word_begun settled n = tt
+    word_begun (lent i b) n = tt
+
+    settled_told : ((get_or s.words k 0 ≡ 3) ⊎ (get_or s.words k 0 ≡ 4)) ↔ HasSome (λ (v : View X T). IsAmong k v.seen) s.views
+    settled_told = let o = r.pieces k inside in (
+      (λ h. r.told k (word_settled m k (r.at k) (⊎_elim (λ (e : get_or s.words k 0 ≡ 3). inl (sym o.word ∙ e)) (λ (e : get_or s.words k 0 ≡ 4). inr (sym o.word ∙ e)) h))),
+      (λ h. ⊎_elim (λ (e : word_of m k (r.at k) ≡ 3). inl (o.word ∙ e)) (λ (e : word_of m k (r.at k) ≡ 4). inr (o.word ∙ e)) (settled_has m k (r.at k) ((r.views h.0 h.1 h.2).seen k h.3))),
+    )
+
+    begun_told : (get_or s.words k 0 ≢ 0) ↔ HasSome (λ (v : View X T). IsAmong k v.begun) s.views
+    begun_told = let o = r.pieces k inside in (
+      (λ n. r.begun k (word_begun (r.at k) (λ e. n (o.word ∙ e)))),
+      (λ h e. begun_word (r.at k) ((r.views h.0 h.1 h.2).begun k h.3) (sym o.word ∙ e)),
+    )
 
     of_ended : (f : Stage) → IsEnded f → Settled (outcome m k) ≡ state_of m k f
     of_ended untouched h = absurd h
@@ -98,11 +138,22 @@ module _ {X T O : Type 0} (meant : X → Meant T O) (key : Key X) (s : State (Ho
         let z : t ≡ w.0 = (let q : some (some (Task t)) ≡ some (some (Task w.0)) = sym d.1.1 ∙ home_is (parked w.0) w.1 in cc) in
         let b : on.0 ≡ next_read m k (m.taken t) = (let q : 8 + on.0 ≡ 8 + next_read m k (m.taken w.0) = sym d.0 ∙ word_is (parked w.0) w.1 in let y = ap m.taken z in let x = ap (next_read m k) y in omega arith) in
         (λ j. Parked (d.1.3 j) (d.1.4 j) (record { 0 = b j })) ∙ (ap (λ u. state_of m k (stage_of m (parked u))) z ∙ sym (ap (λ q. state_of m k (stage_of m q)) w.1))
-    is_shown (Settled o) (inl d) = let w = settled_word m k (r.at k) (sym (r.pieces k inside).word ∙ d.0) in
-        let z : o ≡ outcome m k = (let q : some (some (Outcome o)) ≡ some (some (Outcome (outcome m k))) = sym d.1 ∙ home_is settled w in cc) in
-        ap (λ u. Settled u) z ∙ sym (ap (λ q. state_of m k (stage_of m q)) w)
-    is_shown (Settled o) (inr d) = let w = word_settled m k (r.at k) (inr (sym (r.pieces k inside).word ∙ d.0)) in
+    is_shown (Settled o) (z, inl d) = let w = settled_word m k (r.at k) (sym (r.pieces k inside).word ∙ d.0) in
+        let y : o ≡ outcome m k = (let q : some (some (Outcome o)) ≡ some (some (Outcome (outcome m k))) = sym d.1 ∙ home_is settled w in cc) in
+        ap (λ u. Settled u) y ∙ sym (ap (λ q. state_of m k (stage_of m q)) w)
+    is_shown (Settled o) (z, inr d) = let w = word_settled m k (r.at k) (inr (sym (r.pieces k inside).word ∙ d.0)) in
         ap (λ u. Settled u) d.1 ∙ of_ended (stage_of m (r.at k)) (settled_ended m k (r.at k) w)
+
+  pub views_tell : ViewsTell m s
+  views_tell = record {
+    settled = settled_told;
+    begun = begun_told;
+    stop = (r.set_by, λ h. (r.views h.0 h.1 h.2).stopped h.3);
+    small = r.stop;
+  }
+
+  pub sums_up : SumsUp m s
+  sums_up = ((λ k. steps_of m k (r.at k)), (λ k inside. stands_for k inside (r.at k) refl), r.spent)
 
   pub shows : Shows m s (states m (λ k. stage_of m (r.at k)))
   shows = record {

@@ -1,4 +1,4 @@
--- What a word, or a view, tells of how a piece stands.
+-- From a word, or from a seat's view, back to how the piece stands.
 use Rattle.std.proofs.Common.{◌≡◌, ◌≢◌, ◌⊎◌, ℕ, ◌+◌, ◌<◌, ◌≤◌, List, ◌∷◌, sym, refl, ap, ◌∙◌, subst, arith, Bool, true, false, cond, ◌||◌, inl, inr, ⊎_elim, Option, Some, None}
 use Rattle.settle_core.specs.Meant.{Meant, Lawful, outcome}
 use Rattle.board_rule.specs.Maps.{is_same, is_it, IsAmong}
@@ -73,14 +73,14 @@ module _ {T O : Type 0} (m : Meant T O) (k : ℕ) where
     steps_within (lent i b) s = omega arith
 
 module _ {T : Type 0} (id : ℕ) where
-  by_seat : (i : ℕ) (g h : Hold) (b : Bool) → cond (is_same i id) (Some g) None ≡ Some h → (c : Bool) × (◌≡◌ {A = Standing T} (held i g b) (held id h c))
+  by_seat : (i : ℕ) (g h : Hold T) (b : Bool) → cond (is_same i id) (Some g) None ≡ Some h → (c : Bool) × (◌≡◌ {A = Standing T} (held i g b) (held id h c))
   by_seat i g h b q = by_same i id
       (λ (e : i ≡ id). let s : cond (is_same i id) (Some g) None ≡ Some g = ap (λ (z : Bool). cond z (Some g) None) (same_yes i id e) in
       let hs : g ≡ h = (let t : Some g ≡ Some h = sym s ∙ q in cc) in (b, λ j. held (e j) (hs j) b))
       (λ (n : i ≢ id). let s : cond (is_same i id) (Some g) None ≡ None = ap (λ (z : Bool). cond z (Some g) None) (same_no i id n) in
       let t : None ≡ Some h = sym s ∙ q in absurd cc)
 
-  pub held_view : (p : Standing T) (h : Hold) → held_by id p ≡ Some h → (b : Bool) × (p ≡ held id h b)
+  pub held_view : (p : Standing T) (h : Hold T) → held_by id p ≡ Some h → (b : Bool) × (p ≡ held id h b)
   held_view fresh h e = absurd cc
   held_view (held i g b) h e = by_seat i g h b e
   held_view (parked t) h e = absurd cc

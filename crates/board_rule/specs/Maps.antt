@@ -1,5 +1,7 @@
--- Functions on numbers that change at one place, lists of their values, and sums.
+-- Lists and functions on numbers, as the rule needs them.
 use Rattle.std.specs.Prelude.{◌≡◌, ◌⊎◌, ℕ, zero, suc, ◌+◌, List, [], ◌∷◌, Bool, false, cond, eqb, Option, Some, None}
+use mathlib.Core.Option.{some}
+use lib.ListN.{get_elem?}
 
 unfoldable pub is_same : ℕ → ℕ → Bool
 is_same m n = eqb m n
@@ -22,6 +24,10 @@ module _ {A : Type 0} where
   abbrev pub values : (ℕ → A) → ℕ → List A
   values f zero = []
   values f (suc n) = f 0 ∷ values (λ k. f (suc k)) n
+
+  -- an element of the list has the property
+  abbrev pub HasSome : (A → Type 0) → List A → Type 0
+  HasSome P l = (i : ℕ) × (a : A) × (get_elem? l i ≡ some a) × P a
 
   -- f of each element, added up
   abbrev pub total : (A → ℕ) → List A → ℕ

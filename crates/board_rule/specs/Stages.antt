@@ -1,11 +1,13 @@
 -- The machine of parked tasks, seen by numbers: a task is how many of its piece's reads it has taken, and whether it was advanced.
-use Rattle.std.specs.Prelude.{ℕ, List, slice_index, Bool}
+use Rattle.std.specs.Prelude.{◌≡◌, ℕ, List, slice_index, Bool, Some}
 use Rattle.settle_core.specs.Meant.{Meant, outcome, reads}
 use Rattle.settle_core.specs.declared.next_of.NextOf.{NextOf}
 use Rattle.settle_core.specs.declared.piece_state.PieceState.{PieceState}
 use Rattle.settle_core.specs.declared.piece_state.PieceState.TheVariants.{Fresh, Held, Parked, Settled}
 use Rattle.settle_core.specs.Next.{IsNext, firsts}
-use Rattle.settle_core.specs.Steps.{IsReached}
+use Rattle.settle_core.specs.declared.core_step.CoreStep.{CoreStep}
+use Rattle.settle_core.specs.State.{all_fresh}
+use Rattle.settle_core.specs.Steps.{replayed}
 use Rattle.board_rule.specs.Maps.{values}
 
 -- A piece that is worked on names its worker
@@ -32,6 +34,10 @@ module _ {T O : Type 0} (m : Meant T O) where
   abbrev pub states : (ℕ → Stage) → List (PieceState O)
   states f = values (λ k. state_of k (f k)) m.pieces
 
-  -- Steps of the machine lead there from the state in which every piece is fresh, whatever says what its pieces do next
+  -- Steps of the machine lead there from this state, whatever says what its pieces do next
+  abbrev pub Leads : List (PieceState O) → (ℕ → Stage) → Type 0
+  Leads from f = (next : ℕ → List (ℕ × O) → NextOf O) → IsNext m next → (steps : List CoreStep) × (replayed next from steps ≡ Some (states f))
+
+  -- and from the state in which every piece is fresh
   abbrev pub Reached : (ℕ → Stage) → Type 0
-  Reached f = (next : ℕ → List (ℕ × O) → NextOf O) → IsNext m next → IsReached next m.pieces (states f)
+  Reached = Leads (all_fresh m.pieces)

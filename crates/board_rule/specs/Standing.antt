@@ -12,7 +12,7 @@ use Rattle.board_rule.specs.declared.view.Hold.{Hold}
 -- A held piece and a lent one name their seat, and tell whether that has the slot in hand
 pub data Standing (T : Type 0) : Type 0 where
   fresh : Standing T
-  held : ℕ → Hold → Bool → Standing T
+  held : ℕ → Hold T → Bool → Standing T
   parked : T → Standing T
   settled : Standing T
   lent : ℕ → Bool → Standing T
@@ -25,8 +25,15 @@ module _ {T : Type 0} where
   IsSettled settled = Unit {0}
   IsSettled (lent i b) = Unit {0}
 
+  abbrev pub IsBegun : Standing T → Type 0
+  IsBegun fresh = ⊥
+  IsBegun (held i h b) = Unit {0}
+  IsBegun (parked t) = Unit {0}
+  IsBegun settled = Unit {0}
+  IsBegun (lent i b) = Unit {0}
+
   -- what the view of the seat id has of the piece: its hold, whether its outcome is lent to it, and whether it has the slot in hand
-  abbrev pub held_by : ℕ → Standing T → Option Hold
+  abbrev pub held_by : ℕ → Standing T → Option (Hold T)
   held_by id fresh = None
   held_by id (held i h b) = cond (is_same i id) (Some h) None
   held_by id (parked t) = None
@@ -56,7 +63,7 @@ module _ {T : Type 0} where
   SeatBelow n (lent i b) = i < n
 
 module _ {T O : Type 0} (m : Meant T O) where
-  -- the next read of a task of the piece k that has taken n
+  -- what k reads after its first n reads
   abbrev pub next_read : ℕ → ℕ → ℕ
   next_read k n = slice_index (reads m k) n
 
@@ -75,10 +82,24 @@ module _ {T O : Type 0} (m : Meant T O) where
   home_of k settled = some (Outcome (outcome m k))
   home_of k (lent i b) = cond b none (some Empty)
 
-  -- the steps that it stands for
+  -- Of a piece that was claimed with this task, or fresh: the steps of its task, how many reads that had taken, and whether it was
+  -- advanced
+  abbrev pub steps_at : Option T → ℕ
+  steps_at None = 0
+  steps_at (Some t) = m.task_steps t
+
+  abbrev pub taken_at : Option T → ℕ
+  taken_at None = 0
+  taken_at (Some t) = m.taken t
+
+  abbrev pub advanced_at : Option T → Bool
+  advanced_at None = false
+  advanced_at (Some t) = m.advanced t
+
+  -- how much work on it is counted in the sum of all views
   abbrev pub steps_of : ℕ → Standing T → ℕ
   steps_of k fresh = 0
-  steps_of k (held i h b) = h.steps
+  steps_of k (held i h b) = steps_at h.claimed
   steps_of k (parked t) = m.task_steps t
   steps_of k settled = m.outcome_steps (outcome m k)
   steps_of k (lent i b) = m.outcome_steps (outcome m k)
@@ -86,7 +107,7 @@ module _ {T O : Type 0} (m : Meant T O) where
   -- Its stage in the machine. A held task stands as it was when it was claimed, and its worker is the place of the seat
   abbrev pub stage_of : Standing T → Stage
   stage_of fresh = untouched
-  stage_of (held i h b) = worked i h.taken h.advanced
+  stage_of (held i h b) = worked i (taken_at h.claimed) (advanced_at h.claimed)
   stage_of (parked t) = waiting (m.taken t) (m.advanced t)
   stage_of settled = ended
   stage_of (lent i b) = ended
@@ -100,7 +121,7 @@ module _ {T O : Type 0} (m : Meant T O) where
 
   abbrev pub IsSound : (ℕ → Standing T) → ℕ → Standing T → Type 0
   IsSound at k fresh = Unit {0}
-  IsSound at k (held i h b) = HasTaken at k h.taken h.advanced × (h.steps ≤ m.outcome_steps (outcome m k)) × (h.piece ≡ k)
+  IsSound at k (held i h b) = HasTaken at k (taken_at h.claimed) (advanced_at h.claimed) × (steps_at h.claimed ≤ m.outcome_steps (outcome m k)) × (h.piece ≡ k)
   IsSound at k (parked t) = HasTaken at k (m.taken t) (m.advanced t) × (m.taken t < length (reads m k)) × m.is_task k t
   IsSound at k settled = Unit {0}
   IsSound at k (lent i b) = Unit {0}

@@ -11,7 +11,7 @@ pub struct Law<M> {
     marker: PhantomData<M>,
 }
 
-impl<M: Meaning> TableRule<Home<M::Task, M::Outcome>, View<M>, Key<M>> for Law<M> {
+impl<M: Meaning> TableRule<Home<M::Task, M::Outcome>, View<M, M::Task>, Key<M>> for Law<M> {
     ghost use Rattle.board_rule.specs.Rule.{OneState};
     ghost use Rattle.board_rule.specs.Views.{first_view};
 

@@ -12,7 +12,7 @@ pub use home::Home;
 pub use law::Law;
 pub use laws::every_board_is_one_sound_state;
 pub use plays::{
-    ClaimFresh, ClaimParked, Cut, GiveBack, Leave, Lend, Look, LookAtStop, Merge, Park, Reach,
-    Settle, Stop,
+    ClaimFresh, ClaimParked, Cut, GiveBack, LendStep, Look, LookAtStop, Merge, Park, PutSlotBack,
+    Settle, Stop, TakeSlot,
 };
 pub use view::{Entry, Hold, Key, View};

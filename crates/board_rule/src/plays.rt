@@ -1,6 +1,6 @@
 //! What each step on the table tells the seat that makes it.
 
-ghost use Rattle.board_rule.specs.Plays.{looked, looked_at_stop, stopped, claimed_fresh, reached, left, gave_back, settled, parked, claimed_parked, lent};
+ghost use Rattle.board_rule.specs.Plays.{looked, looked_at_stop, stopped, claimed_fresh, took_slot, put_slot_back, gave_back, settled, parked, claimed_parked, lent};
 ghost use Rattle.board_rule.specs.Views.{with_less, newcomer, joined, gone};
 
 use crate::home::Home;
@@ -11,84 +11,84 @@ use settle_core::Meaning;
 /// A load of the word of a piece.
 pub struct Look;
 
-impl<M: Meaning> Play<Home<M::Task, M::Outcome>, View<M>> for Look {
+impl<M: Meaning> Play<Home<M::Task, M::Outcome>, View<M, M::Task>> for Look {
     ghost then = { looked (λ x. M.meant x) };
 }
 
 /// A load of the stop word.
 pub struct LookAtStop;
 
-impl<T, O, X> Play<Home<T, O>, View<X>> for LookAtStop {
+impl<T, O, X> Play<Home<T, O>, View<X, T>> for LookAtStop {
     ghost then = { looked_at_stop };
 }
 
 /// The store that sets the stop word.
 pub struct Stop;
 
-impl<T, O, X> Play<Home<T, O>, View<X>> for Stop {
+impl<T, O, X> Play<Home<T, O>, View<X, T>> for Stop {
     ghost then = { stopped };
 }
 
 /// An exchange of 0 for 1.
 pub struct ClaimFresh;
 
-impl<T, O, X> Play<Home<T, O>, View<X>> for ClaimFresh {
+impl<T, O, X> Play<Home<T, O>, View<X, T>> for ClaimFresh {
     ghost then = { claimed_fresh };
 }
 
 /// An exchange of the word of a parked piece for 1. The slot comes to hand with the task.
 pub struct ClaimParked;
 
-impl<M: Meaning> Play<Home<M::Task, M::Outcome>, View<M>> for ClaimParked {
+impl<M: Meaning> Play<Home<M::Task, M::Outcome>, View<M, M::Task>> for ClaimParked {
     ghost then = { claimed_parked (λ x. M.meant x) };
 }
 
 /// A load by which a seat takes the empty slot of a piece that it has.
-pub struct Reach;
+pub struct TakeSlot;
 
-impl<T, O, X> Play<Home<T, O>, View<X>> for Reach {
-    ghost then = { reached };
+impl<T, O, X> Play<Home<T, O>, View<X, T>> for TakeSlot {
+    ghost then = { took_slot };
 }
 
 /// A load by which a seat leaves the emptied slot of a piece that it has.
-pub struct Leave;
+pub struct PutSlotBack;
 
-impl<T, O, X> Play<Home<T, O>, View<X>> for Leave {
-    ghost then = { left };
+impl<T, O, X> Play<Home<T, O>, View<X, T>> for PutSlotBack {
+    ghost then = { put_slot_back };
 }
 
 /// The store of 3 that settles a piece.
 pub struct Settle;
 
-impl<M: Meaning> Play<Home<M::Task, M::Outcome>, View<M>> for Settle {
+impl<M: Meaning> Play<Home<M::Task, M::Outcome>, View<M, M::Task>> for Settle {
     ghost then = { settled (λ x. M.meant x) };
 }
 
 /// The store of 8 and the piece that is waited for.
 pub struct Park;
 
-impl<M: Meaning> Play<Home<M::Task, M::Outcome>, View<M>> for Park {
+impl<M: Meaning> Play<Home<M::Task, M::Outcome>, View<M, M::Task>> for Park {
     ghost then = { parked (λ x. M.meant x) };
 }
 
 /// An exchange of 3 for 4. The slot comes to hand with the outcome.
-pub struct Lend;
+pub struct LendStep;
 
-impl<M: Meaning> Play<Home<M::Task, M::Outcome>, View<M>> for Lend {
+impl<M: Meaning> Play<Home<M::Task, M::Outcome>, View<M, M::Task>> for LendStep {
     ghost then = { lent (λ x. M.meant x) };
 }
 
 /// The store of 3 that gives an outcome back.
 pub struct GiveBack;
 
-impl<T, O, X> Play<Home<T, O>, View<X>> for GiveBack {
+impl<T, O, X> Play<Home<T, O>, View<X, T>> for GiveBack {
     ghost then = { gave_back };
 }
 
 /// One seat is cut off from the share of another.
 pub struct Cut;
 
-impl<X> Split<View<X>> for Cut {
+impl<X, T> Split<View<X, T>> for Cut {
     ghost left = { with_less };
 
     ghost right = { newcomer };
@@ -97,7 +97,7 @@ impl<X> Split<View<X>> for Cut {
 /// A seat takes over what another has.
 pub struct Merge;
 
-impl<X> Join<View<X>> for Merge {
+impl<X, T> Join<View<X, T>> for Merge {
     ghost both = { joined };
 
     ghost spent = { gone };

@@ -1,4 +1,4 @@
--- Each step of a seat of the board is allowed, and leaves a seat of the board.
+-- What the calls owe the table for their steps: that the rule allows each of them, and that the seat stays one of the board.
 use Rattle.std.proofs.Common.{◌≡◌, ◌⊎◌, ℕ, ◌+◌, ◌-◌, ◌<◌, ◌≤◌, List, [], ◌∷◌, length, sym, refl, ap, ◌∙◌, subst, arith, Some, None, eqb}
 use prog.Atomic.{either}
 use mathlib.Core.Option.{none}
@@ -7,10 +7,10 @@ use Rattle.atomic_table.specs.Seated.{TableId}
 use Rattle.atomic_table.specs.Table.{step, Allows, Me}
 use Rattle.settle_core.specs.Meant.{Meant, Lawful, outcome, reads}
 use Rattle.board_rule.specs.Maps.{IsAmong}
-use Rattle.board_rule.specs.Standing.{next_read}
+use Rattle.board_rule.specs.Standing.{next_read, steps_at, taken_at}
 use Rattle.board_rule.specs.Views.{hold_on, with_hand}
 use Rattle.board_rule.specs.Rule.{OneState}
-use Rattle.board_rule.specs.Plays.{looked, looked_at_stop, stopped, claimed_fresh, reached, left, gave_back, settled, parked, claimed_parked, lent, CanPark}
+use Rattle.board_rule.specs.Plays.{looked, looked_at_stop, stopped, claimed_fresh, took_slot, put_slot_back, gave_back, settled, parked, claimed_parked, lent, CanPark}
 use Rattle.board_rule.specs.declared.home.Home.{Home}
 use Rattle.board_rule.specs.declared.home.Home.TheVariants.{Empty, Task, Outcome}
 use Rattle.board_rule.specs.declared.view.Hold.{Hold}
@@ -25,10 +25,10 @@ use Rattle.settle_board.specs.Boards.{IsSeat}
 
 module _ {T O X : Type 0} where
   -- what a step on the word k has to show of the seat
-  abbrev pub May : (X → Meant T O) → TableId → Key X → Seat (Home T O) (View X) → ℕ → (ℕ → ℕ) → (Me (Home T O) (View X) → ℕ → Me (Home T O) (View X) → Type 0) → Type 0
+  abbrev pub May : (X → Meant T O) → TableId → Key X → Seat (Home T O) (View X T) → ℕ → (ℕ → ℕ) → (Me (Home T O) (View X T) → ℕ → Me (Home T O) (View X T) → Type 0) → Type 0
   May meant z key s k f then = (s.table_id ≡ z) × (k < z.words) × Allows (OneState meant key) z.slots s.id s.me k f (then s.me)
 
-  pub stays : (m : Meant T O) (z : TableId) (key : Key X) (s t : Seat (Home T O) (View X)) (w : View X) (c : List (ℕ × Home T O)) → IsSeat m z key s → t.table_id ≡ s.table_id → t.me ≡ (w, c) → c ≡ []
+  pub stays : (m : Meant T O) (z : TableId) (key : Key X) (s t : Seat (Home T O) (View X T)) (w : View X T) (c : List (ℕ × Home T O)) → IsSeat m z key s → t.table_id ≡ s.table_id → t.me ≡ (w, c) → c ≡ []
       → w.about ≡ s.me.0.about → w.share ≡ s.me.0.share → w.hand ≡ None → IsSeat m z key t
   stays m z key s t w c a at me no_slot about share hand = record {
     words = a.words;
@@ -41,10 +41,10 @@ module _ {T O X : Type 0} where
   }
 
 -- a seat with nothing in hand is as if nothing had been there
-pub no_hand : {X : Type 0} (v : View X) → v.hand ≡ None → with_hand None v ≡ v
+pub no_hand : {X T : Type 0} (v : View X T) → v.hand ≡ None → with_hand None v ≡ v
 no_hand v e = λ i. record v { hand = sym e i }
 
-module _ {T O X : Type 0} (meant : X → Meant T O) (lawful : (x : X) → Lawful (meant x)) (z : TableId) (key key' : Key X) (is : key' ≡ key) (s : Seat (Home T O) (View X)) (a : IsSeat (meant key.meaning) z key s) where
+module _ {T O X : Type 0} (meant : X → Meant T O) (lawful : (x : X) → Lawful (meant x)) (z : TableId) (key key' : Key X) (is : key' ≡ key) (s : Seat (Home T O) (View X T)) (a : IsSeat (meant key.meaning) z key s) where
   abbrev m : Meant T O
   m = meant key.meaning
 
@@ -53,12 +53,12 @@ module _ {T O X : Type 0} (meant : X → Meant T O) (lawful : (x : X) → Lawful
 
   module _ (k : ℕ) (inside : k ≤ m.pieces) where
     -- of the seat t with the view v and the slots c, under the table's own key
-    at_key : (t : Seat (Home T O) (View X)) (me : Me (Home T O) (View X)) (f : ℕ → ℕ) (then : Me (Home T O) (View X) → ℕ → Me (Home T O) (View X) → Type 0)
+    at_key : (t : Seat (Home T O) (View X T)) (me : Me (Home T O) (View X T)) (f : ℕ → ℕ) (then : Me (Home T O) (View X T) → ℕ → Me (Home T O) (View X T) → Type 0)
         → t.table_id ≡ s.table_id → t.me ≡ me → Allows (OneState meant key) z.slots t.id me k f (then me) → May meant z key' t k f then
     at_key t me f then table e h = (
       table ∙ a.at,
       (let w = a.words in omega arith),
-      subst (λ (x : Key X × Me (Home T O) (View X)). Allows (OneState meant x.0) z.slots t.id x.1 k f (then x.1)) (λ i. (sym is i, sym e i)) h,
+      subst (λ (x : Key X × Me (Home T O) (View X T)). Allows (OneState meant x.0) z.slots t.id x.1 k f (then x.1)) (λ i. (sym is i, sym e i)) h,
     )
 
   module _ (k : ℕ) (inside : k < m.pieces) where
@@ -79,32 +79,32 @@ module _ {T O X : Type 0} (meant : X → Meant T O) (lawful : (x : X) → Lawful
     may_lend idle = at_key k within s s.me (λ x. either (eqb x 3) 4 x) (lent meant (step z.slots k 3 4 none)) refl refl
         (lends meant key (lawful key.meaning) z.slots s.id k s.me.0 s.me.1 inside some_share a.hand a.about idle)
 
-    pub may_reach_held : (h : Hold) → hold_on k s.me.0.held ≡ Some h → May meant z key' s k (λ x. x) (reached (step z.slots k 0 0 none))
-    may_reach_held h has = at_key k within s s.me (λ x. x) (reached (step z.slots k 0 0 none)) refl refl (reaches_held meant key z.slots s.id k s.me.0 inside some_share s.me.1 h a.hand has)
+    pub may_reach_held : (h : Hold T) → hold_on k s.me.0.held ≡ Some h → May meant z key' s k (λ x. x) (took_slot (step z.slots k 0 0 none))
+    may_reach_held h has = at_key k within s s.me (λ x. x) (took_slot (step z.slots k 0 0 none)) refl refl (reaches_held meant key z.slots s.id k s.me.0 inside some_share s.me.1 h a.hand has)
 
-    pub may_reach_lent : s.me.0.lent ≡ Some k → May meant z key' s k (λ x. x) (reached (step z.slots k 0 0 none))
-    may_reach_lent has = at_key k within s s.me (λ x. x) (reached (step z.slots k 0 0 none)) refl refl (reaches_lent meant key z.slots s.id k s.me.0 inside some_share s.me.1 a.hand has)
+    pub may_reach_lent : s.me.0.lent ≡ Some k → May meant z key' s k (λ x. x) (took_slot (step z.slots k 0 0 none))
+    may_reach_lent has = at_key k within s s.me (λ x. x) (took_slot (step z.slots k 0 0 none)) refl refl (reaches_lent meant key z.slots s.id k s.me.0 inside some_share s.me.1 a.hand has)
 
     -- the seat with the slot of the piece in hand
-    module _ (t : Seat (Home T O) (View X)) (v : View X) (c : List (ℕ × Home T O)) (table : t.table_id ≡ s.table_id) (one_share : v.share ≡ 1) (hand : v.hand ≡ Some k) where
+    module _ (t : Seat (Home T O) (View X T)) (v : View X T) (c : List (ℕ × Home T O)) (table : t.table_id ≡ s.table_id) (one_share : v.share ≡ 1) (hand : v.hand ≡ Some k) where
       shared : 0 < v.share
       shared = omega arith
 
-      pub may_leave_held : (h : Hold) → t.me ≡ (v, (k, Empty) ∷ c) → hold_on k v.held ≡ Some h → May meant z key' t k (λ x. x) (left (step z.slots k 0 0 none))
-      may_leave_held h e has = at_key k within t (v, (k, Empty) ∷ c) (λ x. x) (left (step z.slots k 0 0 none)) table e (leaves_held meant key z.slots t.id k v inside shared c h hand has)
+      pub may_leave_held : (h : Hold T) → t.me ≡ (v, (k, Empty) ∷ c) → hold_on k v.held ≡ Some h → May meant z key' t k (λ x. x) (put_slot_back (step z.slots k 0 0 none))
+      may_leave_held h e has = at_key k within t (v, (k, Empty) ∷ c) (λ x. x) (put_slot_back (step z.slots k 0 0 none)) table e (leaves_held meant key z.slots t.id k v inside shared c h hand has)
 
-      pub may_leave_lent : t.me ≡ (v, (k, Empty) ∷ c) → v.lent ≡ Some k → May meant z key' t k (λ x. x) (left (step z.slots k 0 0 none))
-      may_leave_lent e has = at_key k within t (v, (k, Empty) ∷ c) (λ x. x) (left (step z.slots k 0 0 none)) table e (leaves_lent meant key z.slots t.id k v inside shared c hand has)
+      pub may_leave_lent : t.me ≡ (v, (k, Empty) ∷ c) → v.lent ≡ Some k → May meant z key' t k (λ x. x) (put_slot_back (step z.slots k 0 0 none))
+      may_leave_lent e has = at_key k within t (v, (k, Empty) ∷ c) (λ x. x) (put_slot_back (step z.slots k 0 0 none)) table e (leaves_lent meant key z.slots t.id k v inside shared c hand has)
 
-      pub may_settle : (h : Hold) → t.me ≡ (v, (k, Outcome (outcome m k)) ∷ c) → v.about ≡ Some key → hold_on k v.held ≡ Some h
-          → ((i : ℕ) → i < length (reads m k) → (i < h.taken) ⊎ IsAmong (next_read m k i) v.seen)
+      pub may_settle : (h : Hold T) → t.me ≡ (v, (k, Outcome (outcome m k)) ∷ c) → v.about ≡ Some key → hold_on k v.held ≡ Some h
+          → ((i : ℕ) → i < length (reads m k) → (i < taken_at m h.claimed) ⊎ IsAmong (next_read m k i) v.seen)
           → May meant z key' t k (λ _. 3) (λ me _. settled meant (step z.slots k 3 0 none) me 3)
       may_settle h e about has past = at_key k within t (v, (k, Outcome (outcome m k)) ∷ c) (λ _. 3) (λ me _. settled meant (step z.slots k 3 0 none) me 3) table e
           (settles meant key (lawful key.meaning) z.slots t.id k v inside shared c h about hand has past)
 
-      pub may_park : (h : Hold) (u : T) (on : ℕ) → t.me ≡ (v, (k, Task u) ∷ c) → v.about ≡ Some key → hold_on k v.held ≡ Some h
-          → CanPark m k u → on ≡ next_read m k (m.taken u) → h.steps ≤ m.task_steps u → h.taken ≤ m.taken u
-          → ((i : ℕ) → i < m.taken u → (i < h.taken) ⊎ IsAmong (next_read m k i) v.seen)
+      pub may_park : (h : Hold T) (u : T) (on : ℕ) → t.me ≡ (v, (k, Task u) ∷ c) → v.about ≡ Some key → hold_on k v.held ≡ Some h
+          → CanPark m k u → on ≡ next_read m k (m.taken u) → steps_at m h.claimed ≤ m.task_steps u → taken_at m h.claimed ≤ m.taken u
+          → ((i : ℕ) → i < m.taken u → (i < taken_at m h.claimed) ⊎ IsAmong (next_read m k i) v.seen)
           → May meant z key' t k (λ _. 8 + on) (λ me _. parked meant (step z.slots k (8 + on) 0 none) me (8 + on))
       may_park h u on e about has own next more further past = at_key k within t (v, (k, Task u) ∷ c) (λ _. 8 + on) (λ me _. parked meant (step z.slots k (8 + on) 0 none) me (8 + on)) table e
           (parks meant key (lawful key.meaning) z.slots t.id k v inside shared c h u on about hand has own next more further past)

@@ -5,12 +5,12 @@ use Rattle.std.proofs.lemmas.List.Sums.{fold_push}
 use Rattle.cxx_base.specs.declared.number.PieceNo.{PieceNo}
 use Rattle.settle_core.specs.Meant.{Meant}
 use Rattle.board_rule.specs.Maps.{is_same, IsAmong}
-use Rattle.board_rule.specs.Standing.{next_read}
-use Rattle.board_rule.specs.Views.{hold_on, without, fresh_hold, task_hold, after_look, after_stop_look, after_settle, after_park, after_give_back, unless_settled, unsettled_after, last_unsettled}
+use Rattle.board_rule.specs.Standing.{next_read, taken_at}
+use Rattle.board_rule.specs.Views.{hold_on, without, fresh_hold, task_hold, after_look, after_stop_look, after_stop, after_start, after_claim, after_settle, after_park, after_give_back, Knows, unless_settled, unsettled_after, last_unsettled}
 use Rattle.board_rule.specs.declared.view.Hold.{Hold}
 use Rattle.board_rule.specs.declared.view.View.{View}
 use Rattle.board_rule.specs.declared.view.Entry.{Entry}
-use Rattle.board_rule.specs.declared.view.Entry.TheVariants.{Looks, LooksAtStop, ClaimsFresh, ClaimsParked, Settles, Parks, Lends, GivesBack}
+use Rattle.board_rule.specs.declared.view.Entry.TheVariants.{Looks, LooksAtStop, ClaimsFresh, ClaimsParked, Settles, Parks, Lends, GivesBack, Stops}
 use Rattle.board_rule.proofs.Maps.{by_same, same_yes, same_no, hold_here}
 use Rattle.board_rule.proofs.Standings.{saw_before, saw_it}
 use Rattle.settle_board.specs.Boards.{HasSeen}
@@ -19,13 +19,13 @@ use Rattle.settle_board.specs.Changes.{Becomes, TurnsAway, IsWithin, IsTurnedAwa
 use Rattle.settle_board.specs.declared.answers.Claim.TheVariants.{Start, Resume, NotNow, StillParked}
 use Rattle.settle_board.specs.declared.answers.Lend.TheVariants.{Got, NotSettled, Busy}
 
-module _ {X : Type 0} where
+module _ {X T : Type 0} where
   -- nothing was done
-  pub begin : (v : View X) → Becomes v.held v.lent 0 [] v v
-  begin v = record { about = refl; share = refl; stopped = refl; saw_stop = λ e. e; holds = refl; loan = refl; spent = omega arith; seen = λ j h. h; trail = sym (append-nil v.trail) }
+  pub begin : (v : View X T) → Becomes v.held v.lent 0 [] v v
+  begin v = record { about = refl; share = refl; stopped = refl; saw_stop = λ e. e; holds = refl; loan = refl; spent = omega arith; begun = λ j h. h; seen = λ j h. h; trail = sym (append-nil v.trail) }
 
   -- one change after the other
-  pub then : (held held' : List Hold) (lent lent' : Option ℕ) (a b : ℕ) (p q : List Entry) (u v w : View X) → Becomes held lent a p u v → Becomes held' lent' b q v w → Becomes held' lent' (a + b) (p ++ q) u w
+  pub then : (held held' : List (Hold T)) (lent lent' : Option ℕ) (a b : ℕ) (p q : List (Entry T)) (u v w : View X T) → Becomes held lent a p u v → Becomes held' lent' b q v w → Becomes held' lent' (a + b) (p ++ q) u w
   then held held' lent lent' a b p q u v w f g = record {
     about = g.about ∙ f.about;
     share = g.share ∙ f.share;
@@ -34,12 +34,13 @@ module _ {X : Type 0} where
     holds = g.holds;
     loan = g.loan;
     spent = (let x = f.spent in let y = g.spent in omega arith);
+    begun = λ j h. g.begun j (f.begun j h);
     seen = λ j h. g.seen j (f.seen j h);
     trail = g.trail ∙ (ap (λ t. t ++ q) f.trail ∙ append_assoc u.trail p q);
   }
 
   -- a look, or an exchange that is lost
-  module _ (e : Entry) (k r : ℕ) (v w : View X) (is : w ≡ after_look e k r v) where
+  module _ (e : Entry T) (k r : ℕ) (v w : View X T) (is : w ≡ after_look e k r v) where
     pub looks : Becomes v.held v.lent 0 (e ∷ []) v w
     looks = record {
       about = ap (λ x. x.about) is;
@@ -49,6 +50,7 @@ module _ {X : Type 0} where
       holds = ap (λ x. x.held) is;
       loan = ap (λ x. x.lent) is;
       spent = (let h = ap (λ x. x.spent) is in omega arith);
+      begun = λ j h. subst (IsAmong j) (sym (ap (λ x. x.begun) is)) h;
       seen = λ j h. subst (IsAmong j) (sym (ap (λ x. x.seen) is)) (saw_before k r v.seen j h);
       trail = ap (λ x. x.trail) is;
     }
@@ -56,8 +58,8 @@ module _ {X : Type 0} where
     pub sees_settled : (r ≡ 3) ⊎ (r ≡ 4) → IsAmong k w.seen
     sees_settled h = subst (IsAmong k) (sym (ap (λ x. x.seen) is)) (saw_it k r v.seen h)
 
--- a look at the stop word
-pub looks_at_stop : {X : Type 0} (r : ℕ) (v w : View X) → w ≡ after_stop_look r v → Becomes v.held v.lent 0 (LooksAtStop r ∷ []) v w
+-- whether to stop
+pub looks_at_stop : {X T : Type 0} (r : ℕ) (v w : View X T) → w ≡ after_stop_look r v → Becomes v.held v.lent 0 (LooksAtStop r ∷ []) v w
 looks_at_stop r v w is = record {
   about = ap (λ x. x.about) is;
   share = ap (λ x. x.share) is;
@@ -66,6 +68,7 @@ looks_at_stop r v w is = record {
   holds = ap (λ x. x.held) is;
   loan = ap (λ x. x.lent) is;
   spent = (let h = ap (λ x. x.spent) is in omega arith);
+  begun = λ j h. subst (IsAmong j) (sym (ap (λ x. x.begun) is)) h;
   seen = λ j h. subst (IsAmong j) (sym (ap (λ x. x.seen) is)) h;
   trail = ap (λ x. x.trail) is;
 }
@@ -74,37 +77,81 @@ looks_at_stop r v w is = record {
     either_true true b e = refl
     either_true false b e = e
 
+-- That the stop word is set. The view becomes what it would from one that had set it before
+pub stops : {X T : Type 0} (v w : View X T) → w ≡ after_stop v → Becomes v.held v.lent 0 (Stops ∷ []) (record v { stopped = true }) w × (w.stopped ≡ true) × (w.saw_stop ≡ true)
+stops v w is = (
+  record {
+    about = ap (λ x. x.about) is;
+    share = ap (λ x. x.share) is;
+    stopped = ap (λ x. x.stopped) is;
+    saw_stop = λ _. ap (λ x. x.saw_stop) is;
+    holds = ap (λ x. x.held) is;
+    loan = ap (λ x. x.lent) is;
+    spent = (let h = ap (λ x. x.spent) is in omega arith);
+    begun = λ j h. subst (IsAmong j) (sym (ap (λ x. x.begun) is)) h;
+    seen = λ j h. subst (IsAmong j) (sym (ap (λ x. x.seen) is)) h;
+    trail = ap (λ x. x.trail) is;
+  },
+  ap (λ x. x.stopped) is,
+  ap (λ x. x.saw_stop) is,
+)
+
+-- a look at the stop word that found it set
+pub sees_stop : {X T : Type 0} (r : ℕ) (v w : View X T) → r ≡ 1 → w ≡ after_stop_look r v → w.saw_stop ≡ true
+sees_stop r v w e is = ap (λ x. x.saw_stop) is ∙ ap (λ b. b || v.saw_stop) (same_yes r 1 e)
+
 unless_open : (p r : ℕ) (before : Option ℕ) → r ≢ 3 → r ≢ 4 → unless_settled p r before ≡ Some p
 unless_open p r before a b = ap (λ t. cond (t || is_same r 4) before (Some p)) (same_no r 3 a) ∙ ap (λ t. cond t before (Some p)) (same_no r 4 b)
 
 -- the last piece seen unsettled, after one step more
-pub last_more : (k : ℕ) (trail : List Entry) (e : Entry) → last_unsettled k (trail ++ e ∷ []) ≡ unsettled_after k (last_unsettled k trail) e
+pub last_more : {T : Type 0} (k : ℕ) (trail : List (Entry T)) (e : Entry T) → last_unsettled k (trail ++ e ∷ []) ≡ unsettled_after k (last_unsettled k trail) e
 last_more k trail e = fold_push (unsettled_after k) None trail e
 
-module _ {X : Type 0} (k p r : ℕ) (v w : View X) (a : r ≢ 3) (b : r ≢ 4) where
+-- A won claim of k begins anew; steps that end a hold or a loan look at nothing
+module _ {X T : Type 0} (k p : ℕ) (v w : View X T) where
+  pub start_waits : w ≡ after_start k v → last_unsettled k w.trail ≡ None
+  start_waits is = ap (λ x. last_unsettled k x.trail) is ∙ (last_more k v.trail (ClaimsFresh k 0 true) ∙ ap (λ b. cond b None (last_unsettled k v.trail)) (same_yes k k refl))
+
+  pub resume_waits : (r : ℕ) (h : Hold T) → w ≡ after_claim (ClaimsParked k r true) h v → last_unsettled k w.trail ≡ None
+  resume_waits r h is = ap (λ x. last_unsettled k x.trail) is ∙ (last_more k v.trail (ClaimsParked k r true) ∙ ap (λ b. cond b None (last_unsettled k v.trail)) (same_yes k k refl))
+
+  pub settle_waits : (steps : ℕ) → w ≡ after_settle k steps v → last_unsettled p w.trail ≡ last_unsettled p v.trail
+  settle_waits steps is = ap (λ x. last_unsettled p x.trail) is ∙ last_more p v.trail (Settles k)
+
+  pub park_waits : (word : ℕ) (t : T) (steps : ℕ) → w ≡ after_park k word t steps v → last_unsettled p w.trail ≡ last_unsettled p v.trail
+  park_waits word t steps is = ap (λ x. last_unsettled p x.trail) is ∙ last_more p v.trail (Parks k word t)
+
+  pub give_waits : w ≡ after_give_back k v → last_unsettled p w.trail ≡ last_unsettled p v.trail
+  give_waits is = ap (λ x. last_unsettled p x.trail) is ∙ last_more p v.trail (GivesBack k)
+
+module _ {X T : Type 0} (k p r : ℕ) (v w : View X T) (a : r ≢ 3) (b : r ≢ 4) where
   pub look_waits : w ≡ after_look (Looks p r) p r v → last_unsettled k w.trail ≡ Some p
   look_waits is = ap (λ x. last_unsettled k x.trail) is ∙ (last_more k v.trail (Looks p r) ∙ unless_open p r (last_unsettled k v.trail) a b)
 
   pub lend_waits : w ≡ after_look (Lends p r false) p r v → last_unsettled k w.trail ≡ Some p
   lend_waits is = ap (λ x. last_unsettled k x.trail) is ∙ (last_more k v.trail (Lends p r false) ∙ unless_open p r (last_unsettled k v.trail) a b)
 
-module _ {X T O : Type 0} (m : Meant T O) (k : ℕ) (v w : View X) where
+module _ {X T O : Type 0} (m : Meant T O) (k : ℕ) (v w : View X T) where
   -- a claim that is won
-  pub claim_starts : ClaimSays m k v Start w → Becomes (fresh_hold k ∷ v.held) v.lent 0 (Looks k 0 ∷ ClaimsFresh k 0 true ∷ []) v w
-  claim_starts h = record {
-    about = ap (λ x. x.about) h;
-    share = ap (λ x. x.share) h;
-    stopped = ap (λ x. x.stopped) h;
-    saw_stop = λ q. ap (λ x. x.saw_stop) h ∙ q;
-    holds = ap (λ x. x.held) h;
-    loan = ap (λ x. x.lent) h;
-    spent = (let e = ap (λ x. x.spent) h in omega arith);
-    seen = λ j s. subst (IsAmong j) (sym (ap (λ x. x.seen) h)) (saw_before k 0 v.seen j s);
-    trail = ap (λ x. x.trail) h ∙ append_assoc v.trail (Looks k 0 ∷ []) (ClaimsFresh k 0 true ∷ []);
-  }
+  pub claim_starts : ClaimSays m k v Start w → Becomes (fresh_hold k ∷ v.held) v.lent 0 (Looks k 0 ∷ ClaimsFresh k 0 true ∷ []) v w × IsAmong k w.begun
+  claim_starts h = (
+    record {
+      about = ap (λ x. x.about) h;
+      share = ap (λ x. x.share) h;
+      stopped = ap (λ x. x.stopped) h;
+      saw_stop = λ q. ap (λ x. x.saw_stop) h ∙ q;
+      holds = ap (λ x. x.held) h;
+      loan = ap (λ x. x.lent) h;
+      spent = (let e = ap (λ x. x.spent) h in omega arith);
+      begun = λ j s. subst (IsAmong j) (sym (ap (λ x. x.begun) h)) (inr s);
+      seen = λ j s. subst (IsAmong j) (sym (ap (λ x. x.seen) h)) (saw_before k 0 v.seen j s);
+      trail = ap (λ x. x.trail) h ∙ append_assoc v.trail (Looks k 0 ∷ []) (ClaimsFresh k 0 true ∷ []);
+    },
+    subst (IsAmong k) (sym (ap (λ x. x.begun) h)) (inl refl),
+  )
 
   pub claim_resumes : (t : T) (h : ClaimSays m k v (Resume t) w) → let on = next_read m k (m.taken t) in
-      Becomes (task_hold m k t ∷ v.held) v.lent 0 (Looks k (8 + on) ∷ Looks on h.1 ∷ ClaimsParked k (8 + on) true ∷ []) v w × IsAmong on w.seen
+      Becomes (task_hold k t ∷ v.held) v.lent 0 (Looks k (8 + on) ∷ Looks on h.1 ∷ ClaimsParked k (8 + on) true ∷ []) v w × IsAmong on w.seen
   claim_resumes t h = let on = next_read m k (m.taken t) in let e = h.3 in (
     record {
       about = ap (λ x. x.about) e;
@@ -114,6 +161,7 @@ module _ {X T O : Type 0} (m : Meant T O) (k : ℕ) (v w : View X) where
       holds = ap (λ x. x.held) e;
       loan = ap (λ x. x.lent) e;
       spent = (let q = ap (λ x. x.spent) e in omega arith);
+      begun = λ j s. subst (IsAmong j) (sym (ap (λ x. x.begun) e)) s;
       seen = λ j s. subst (IsAmong j) (sym (ap (λ x. x.seen) e)) (saw_before on h.1 _ j (saw_before k (8 + on) v.seen j s));
       trail = ap (λ x. x.trail) e ∙ (append_assoc (v.trail ++ Looks k (8 + on) ∷ []) (Looks on h.1 ∷ []) (ClaimsParked k (8 + on) true ∷ []) ∙ append_assoc v.trail (Looks k (8 + on) ∷ []) (Looks on h.1 ∷ ClaimsParked k (8 + on) true ∷ []));
     },
@@ -121,21 +169,27 @@ module _ {X T O : Type 0} (m : Meant T O) (k : ℕ) (v w : View X) where
   )
 
   -- a claim that is turned away
-  pub claim_not_now : (r : ℕ) → ClaimSays m k v (NotNow r) w → (here : List Entry) × Becomes v.held v.lent 0 here v w × TurnsAway k here
-  claim_not_now r (inl h) = (Looks k r ∷ [], looks (Looks k r) k r v w h.0, inl (r, refl, h.1))
-  claim_not_now r (inr (inl h)) = let u = after_look (Looks k 0) k 0 v in (
+  pub claim_not_now : (r : ℕ) → ClaimSays m k v (NotNow r) w → (here : List (Entry T)) × Becomes v.held v.lent 0 here v w × TurnsAway k here
+  claim_not_now r (z, inl h) = (Looks k r ∷ [], looks (Looks k r) k r v w h.0, inl (r, refl, h.1))
+  claim_not_now r (z, inr (inl h)) = let u = after_look (Looks k 0) k 0 v in (
     Looks k 0 ∷ ClaimsFresh k r false ∷ [],
     then v.held u.held v.lent u.lent 0 0 (Looks k 0 ∷ []) (ClaimsFresh k r false ∷ []) v u w (looks (Looks k 0) k 0 v u refl) (looks (ClaimsFresh k r false) k r u w h.0),
     inr (inl (r, refl, h.1)),
   )
-  claim_not_now r (inr (inr h)) = let on = h.0 in let found = h.1 in let t = after_look (Looks k (8 + on)) k (8 + on) v in let u = after_look (Looks on found) on found t in (
+  claim_not_now r (z, inr (inr h)) = let on = h.0 in let found = h.1 in let t = after_look (Looks k (8 + on)) k (8 + on) v in let u = after_look (Looks on found) on found t in (
     Looks k (8 + on) ∷ Looks on found ∷ ClaimsParked k r false ∷ [],
     then v.held v.held v.lent v.lent 0 0 (Looks k (8 + on) ∷ []) (Looks on found ∷ ClaimsParked k r false ∷ []) v t w (looks (Looks k (8 + on)) k (8 + on) v t refl)
         (then v.held v.held v.lent v.lent 0 0 (Looks on found ∷ []) (ClaimsParked k r false ∷ []) t u w (looks (Looks on found) on found t u refl) (looks (ClaimsParked k r false) k r u w h.2)),
     inr (inr (inl (on, found, r, refl, h.3, h.4))),
   )
 
-  pub claim_still : (on : PieceNo) (found : ℕ) → ClaimSays m k v (StillParked on found) w → (here : List Entry) × Becomes v.held v.lent 0 here v w × TurnsAway k here
+  -- the word that stood in the way is one of a settled piece
+  pub claim_settled : (r : ℕ) → (r ≡ 3) ⊎ (r ≡ 4) → ClaimSays m k v (NotNow r) w → IsAmong k w.seen
+  claim_settled r d (z, inl h) = sees_settled (Looks k r) k r v w h.0 d
+  claim_settled r d (z, inr (inl h)) = sees_settled (ClaimsFresh k r false) k r (after_look (Looks k 0) k 0 v) w h.0 d
+  claim_settled r d (z, inr (inr h)) = sees_settled (ClaimsParked k r false) k r (after_look (Looks h.0 h.1) h.0 h.1 (after_look (Looks k (8 + h.0)) k (8 + h.0) v)) w h.2 d
+
+  pub claim_still : (on : PieceNo) (found : ℕ) → ClaimSays m k v (StillParked on found) w → (here : List (Entry T)) × Becomes v.held v.lent 0 here v w × TurnsAway k here
   claim_still on found h = let t = after_look (Looks k (8 + on.0)) k (8 + on.0) v in (
     Looks k (8 + on.0) ∷ Looks on.0 found ∷ [],
     then v.held v.held v.lent v.lent 0 0 (Looks k (8 + on.0) ∷ []) (Looks on.0 found ∷ []) v t w (looks (Looks k (8 + on.0)) k (8 + on.0) v t refl) (looks (Looks on.0 found) on.0 found t w h.0),
@@ -153,6 +207,7 @@ module _ {X T O : Type 0} (m : Meant T O) (k : ℕ) (v w : View X) where
       holds = ap (λ x. x.held) h.1;
       loan = ap (λ x. x.lent) h.1;
       spent = (let q = ap (λ x. x.spent) h.1 in omega arith);
+      begun = λ j s. subst (IsAmong j) (sym (ap (λ x. x.begun) h.1)) s;
       seen = λ j s. subst (IsAmong j) (sym (ap (λ x. x.seen) h.1)) (inr s);
       trail = ap (λ x. x.trail) h.1;
     },
@@ -168,7 +223,7 @@ module _ {X T O : Type 0} (m : Meant T O) (k : ℕ) (v w : View X) where
   pub lend_busy : (r : ℕ) → LendSays m k v (Busy r) w → Becomes v.held v.lent 0 (Lends k 4 false ∷ []) v w × IsAmong k w.seen
   lend_busy r h = (looks (Lends k 4 false) k 4 v w h.1, sees_settled (Lends k 4 false) k 4 v w h.1 (inr refl))
 
-module _ {X : Type 0} (k : ℕ) (v w : View X) where
+module _ {X T : Type 0} (k : ℕ) (v w : View X T) where
   pub gives : w ≡ after_give_back k v → Becomes v.held None 0 (GivesBack k ∷ []) v w
   gives h = record {
     about = ap (λ x. x.about) h;
@@ -178,6 +233,7 @@ module _ {X : Type 0} (k : ℕ) (v w : View X) where
     holds = ap (λ x. x.held) h;
     loan = ap (λ x. x.lent) h;
     spent = (let q = ap (λ x. x.spent) h in omega arith);
+    begun = λ j s. subst (IsAmong j) (sym (ap (λ x. x.begun) h)) s;
     seen = λ j s. subst (IsAmong j) (sym (ap (λ x. x.seen) h)) s;
     trail = ap (λ x. x.trail) h;
   }
@@ -193,14 +249,15 @@ module _ {X : Type 0} (k : ℕ) (v w : View X) where
       holds = ap (λ x. x.held) h;
       loan = ap (λ x. x.lent) h;
       spent = ap (λ x. x.spent) h;
+      begun = λ j s. subst (IsAmong j) (sym (ap (λ x. x.begun) h)) s;
       seen = λ j s. subst (IsAmong j) (sym (ap (λ x. x.seen) h)) (inr s);
       trail = ap (λ x. x.trail) h;
     },
     subst (IsAmong k) (sym (ap (λ x. x.seen) h)) (inl refl),
   )
 
-  pub parks : (word steps : ℕ) → w ≡ after_park k word steps v → Becomes (without k v.held) v.lent steps (Parks k word ∷ []) v w
-  parks word steps h = record {
+  pub parks : (word : ℕ) (t : T) (steps : ℕ) → w ≡ after_park k word t steps v → Becomes (without k v.held) v.lent steps (Parks k word t ∷ []) v w
+  parks word t steps h = record {
     about = ap (λ x. x.about) h;
     share = ap (λ x. x.share) h;
     stopped = ap (λ x. x.stopped) h;
@@ -208,61 +265,68 @@ module _ {X : Type 0} (k : ℕ) (v w : View X) where
     holds = ap (λ x. x.held) h;
     loan = ap (λ x. x.lent) h;
     spent = ap (λ x. x.spent) h;
+    begun = λ j s. subst (IsAmong j) (sym (ap (λ x. x.begun) h)) s;
     seen = λ j s. subst (IsAmong j) (sym (ap (λ x. x.seen) h)) s;
     trail = ap (λ x. x.trail) h;
   }
 
 -- the holds of a view
-pub held_first : (h : Hold) (hs held : List Hold) (k : ℕ) → held ≡ h ∷ hs → h.piece ≡ k → hold_on k held ≡ Some h
+pub held_first : {T : Type 0} (h : Hold T) (hs held : List (Hold T)) (k : ℕ) → held ≡ h ∷ hs → h.piece ≡ k → hold_on k held ≡ Some h
 held_first h hs held k is e = ap (hold_on k) is ∙ hold_here h hs k e
 
-pub held_some : (h : Hold) (k : ℕ) (held : List Hold) → hold_on k held ≡ Some h → IsSome (hold_on k held)
+pub held_some : {T : Type 0} (h : Hold T) (k : ℕ) (held : List (Hold T)) → hold_on k held ≡ Some h → IsSome (hold_on k held)
 held_some h k held e = ap is_some e
 
-pub one_hold : (h g : Hold) (k : ℕ) (held : List Hold) → hold_on k held ≡ Some h → hold_on k held ≡ Some g → h ≡ g
+pub one_hold : {T : Type 0} (h g : Hold T) (k : ℕ) (held : List (Hold T)) → hold_on k held ≡ Some h → hold_on k held ≡ Some g → h ≡ g
 one_hold h g k held a b = let e : Some h ≡ Some g = sym a ∙ b in cc
 
-pub none_left : (h : Hold) (k : ℕ) → h.piece ≡ k → without k (h ∷ []) ≡ []
+pub none_left : {T : Type 0} (h : Hold T) (k : ℕ) → h.piece ≡ k → without k (h ∷ []) ≡ []
 none_left h k e = ap (λ b. cond b [] (h ∷ [])) (same_yes h.piece k e)
+
+-- what a view knows to be settled it still knows where it sees no less and keeps its holds
+pub knows_stays : {X T O : Type 0} (m : Meant T O) (v w : View X T) → ((j : ℕ) → IsAmong j v.seen → IsAmong j w.seen)
+    → ((p : ℕ) (h : Hold T) → hold_on p v.held ≡ Some h → hold_on p w.held ≡ Some h) → (j : ℕ) → Knows m j v → Knows m j w
+knows_stays m v w grows keeps j (inl h) = inl (grows j h)
+knows_stays m v w grows keeps j (inr t) = inr (t.0, t.1, t.2, keeps t.0 t.2 t.3, t.4, t.5)
 
 -- a task that has seen its first n reads
 module _ {X T O : Type 0} (m : Meant T O) (k : ℕ) where
-  pub seen_none_yet : (v : View X) → HasSeen m k 0 v
+  pub seen_none_yet : (v : View X T) → HasSeen m k 0 v
   seen_none_yet v h e i l = absurd (omega arith)
 
-  pub seen_claimed : (v : View X) (t : T) → hold_on k v.held ≡ Some (task_hold m k t) → HasSeen m k (m.taken t) v
-  seen_claimed v t has h e i l = inl (subst (λ (x : Hold). i < x.taken) (one_hold (task_hold m k t) h k v.held has e) l)
+  pub seen_claimed : (v : View X T) (t : T) → hold_on k v.held ≡ Some (task_hold k t) → HasSeen m k (m.taken t) v
+  seen_claimed v t has h e i l = inl (subst (λ (x : Hold T). i < taken_at m x.claimed) (one_hold (task_hold k t) h k v.held has e) l)
 
-  pub seen_one_more : (n : ℕ) (v : View X) → HasSeen m k n v → IsAmong (next_read m k n) v.seen → HasSeen m k (n + 1) v
+  pub seen_one_more : (n : ℕ) (v : View X T) → HasSeen m k n v → IsAmong (next_read m k n) v.seen → HasSeen m k (n + 1) v
   seen_one_more n v all has h e i l = by_same i n (λ (q : i ≡ n). inr (subst (λ (z : ℕ). IsAmong (next_read m k z) v.seen) (sym q) has)) (λ (d : i ≢ n). all h e i (omega arith))
 
-  pub seen_stays : (n : ℕ) (v w : View X) → hold_on k w.held ≡ hold_on k v.held → ((j : ℕ) → IsAmong j v.seen → IsAmong j w.seen) → HasSeen m k n v → HasSeen m k n w
-  seen_stays n v w same grows all h e i l = ⊎_elim (λ (a : i < h.taken). inl a) (λ (a : IsAmong (next_read m k i) v.seen). inr (grows (next_read m k i) a)) (all h (sym same ∙ e) i l)
+  pub seen_stays : (n : ℕ) (v w : View X T) → hold_on k w.held ≡ hold_on k v.held → ((j : ℕ) → IsAmong j v.seen → IsAmong j w.seen) → HasSeen m k n v → HasSeen m k n w
+  seen_stays n v w same grows all h e i l = ⊎_elim (λ (a : i < taken_at m h.claimed). inl a) (λ (a : IsAmong (next_read m k i) v.seen). inr (grows (next_read m k i) a)) (all h (sym same ∙ e) i l)
 
 -- parts of trails
-module _ (here : List Entry) where
+module _ {T : Type 0} (here : List (Entry T)) where
   pub within_itself : IsWithin here here
   within_itself = ([], [], sym (append-nil here))
 
-  pub within_left : (p q : List Entry) → IsWithin here p → IsWithin here (p ++ q)
+  pub within_left : (p q : List (Entry T)) → IsWithin here p → IsWithin here (p ++ q)
   within_left p q h = (h.0, h.1 ++ q, ap (λ x. x ++ q) h.2 ∙ (append_assoc h.0 (here ++ h.1) q ∙ ap (λ x. h.0 ++ x) (append_assoc here h.1 q)))
 
-  pub within_right : (p q : List Entry) → IsWithin here q → IsWithin here (p ++ q)
+  pub within_right : (p q : List (Entry T)) → IsWithin here q → IsWithin here (p ++ q)
   within_right p q h = (p ++ h.0, h.1, ap (λ x. p ++ x) h.2 ∙ sym (append_assoc p h.0 (here ++ h.1)))
 
 -- a piece that was tried
-module _ (k : ℕ) (p q : List Entry) where
+module _ {T : Type 0} (k : ℕ) (p q : List (Entry T)) where
   pub turned_left : IsTurnedAway k p → IsTurnedAway k (p ++ q)
   turned_left h = (h.0, h.1, within_left h.0 p q h.2)
 
   pub turned_right : IsTurnedAway k q → IsTurnedAway k (p ++ q)
   turned_right h = (h.0, h.1, within_right h.0 p q h.2)
 
-pub turned_here : (k : ℕ) (here : List Entry) → TurnsAway k here → IsTurnedAway k here
+pub turned_here : {T : Type 0} (k : ℕ) (here : List (Entry T)) → TurnsAway k here → IsTurnedAway k here
 turned_here k here h = (here, h, within_itself here)
 
 -- one piece more was tried
-pub turn_away_more : (n : ℕ) (p here : List Entry) → AllTurnAway n p → TurnsAway n here → AllTurnAway (n + 1) (p ++ here)
+pub turn_away_more : {T : Type 0} (n : ℕ) (p here : List (Entry T)) → AllTurnAway n p → TurnsAway n here → AllTurnAway (n + 1) (p ++ here)
 turn_away_more n p here all one k l = by_same k n
     (λ (e : k ≡ n). subst (λ (z : ℕ). IsTurnedAway z (p ++ here)) (sym e) (turned_right n p here (turned_here n here one)))
     (λ (d : k ≢ n). turned_left k p here (all k (omega arith)))

@@ -1,4 +1,4 @@
--- The seats of a new board.
+-- How one blank seat is cut into as many as are wanted.
 use Rattle.std.proofs.Common.{◌≡◌, ℕ, ◌-◌, ◌<◌, List, [], ◌∷◌, ◌++◌, sym, ap, ◌∙◌, subst, arith, ⊎_elim}
 use lib.ListN.{get_elem?}
 use Rattle.atomic_table.specs.declared.shared.Seat.{Seat}
@@ -20,17 +20,17 @@ module _ {T O X : Type 0} (meant : X → Meant T O) (b : Board X T O) where
   abbrev m : Meant T O
   m = meant b.key.meaning
 
-  abbrev Deals : ℕ → Seat (Home T O) (View X) → Type 0
+  abbrev Deals : ℕ → Seat (Home T O) (View X T) → Type 0
   Deals n s = Dealing m b.table.shared.table_id b.key n s
 
   abbrev IsBlank : BoardSeat X T O → Type 0
   IsBlank s = IsOf meant b s × (view_of s ≡ blank b.key 1)
 
-  pub new_more : (seats seats' : List (BoardSeat X T O)) (s : Seat (Home T O) (View X)) → seats' ≡ seats ++ record { seat = s } ∷ [] → AreNew meant b seats → IsBlank record { seat = s } → AreNew meant b seats'
+  pub new_more : (seats seats' : List (BoardSeat X T O)) (s : Seat (Home T O) (View X T)) → seats' ≡ seats ++ record { seat = s } ∷ [] → AreNew meant b seats → IsBlank record { seat = s } → AreNew meant b seats'
   new_more seats seats' s e all here i t g = ⊎_elim (all i t) (λ (q : record { seat = s } ≡ t). subst IsBlank q here) (at_snoc seats (record { seat = s }) t i (ap (λ l. get_elem? l i) (sym e) ∙ g))
 
-  module _ (n : ℕ) (s : Seat (Home T O) (View X)) (d : Deals n s) where
-    is_blank : (t : Seat (Home T O) (View X)) → t.table_id ≡ b.table.shared.table_id → t.me ≡ (blank b.key 1, []) → IsBlank record { seat = t }
+  module _ (n : ℕ) (s : Seat (Home T O) (View X T)) (d : Deals n s) where
+    is_blank : (t : Seat (Home T O) (View X T)) → t.table_id ≡ b.table.shared.table_id → t.me ≡ (blank b.key 1, []) → IsBlank record { seat = t }
     is_blank t at me = (
       record {
         words = d.words;
@@ -44,11 +44,11 @@ module _ {T O X : Type 0} (meant : X → Meant T O) (b : Board X T O) where
       ap (λ x. x.0) me,
     )
 
-    pub deals_less : (t : Seat (Home T O) (View X)) → t.table_id ≡ s.table_id → t.me ≡ (with_less s.me.0, s.me.1) → Deals (n - 1) t
-    deals_less t at me = record { words = d.words; slots = d.slots; at = at ∙ d.at; me = me ∙ ap (λ (x : Me (Home T O) (View X)). (with_less x.0, x.1)) d.me }
+    pub deals_less : (t : Seat (Home T O) (View X T)) → t.table_id ≡ s.table_id → t.me ≡ (with_less s.me.0, s.me.1) → Deals (n - 1) t
+    deals_less t at me = record { words = d.words; slots = d.slots; at = at ∙ d.at; me = me ∙ ap (λ (x : Me (Home T O) (View X T)). (with_less x.0, x.1)) d.me }
 
-    pub newcomer_blank : (t : Seat (Home T O) (View X)) → t.table_id ≡ s.table_id → t.me ≡ (newcomer s.me.0, []) → IsBlank record { seat = t }
-    newcomer_blank t at me = is_blank t (at ∙ d.at) (me ∙ ap (λ (x : Me (Home T O) (View X)). (newcomer x.0, [])) d.me)
+    pub newcomer_blank : (t : Seat (Home T O) (View X T)) → t.table_id ≡ s.table_id → t.me ≡ (newcomer s.me.0, []) → IsBlank record { seat = t }
+    newcomer_blank t at me = is_blank t (at ∙ d.at) (me ∙ ap (λ (x : Me (Home T O) (View X T)). (newcomer x.0, [])) d.me)
 
     pub last_blank : n ≡ 1 → IsBlank record { seat = s }
     last_blank one = is_blank s d.at (d.me ∙ ap (λ (k : ℕ). (blank b.key k, [])) one)

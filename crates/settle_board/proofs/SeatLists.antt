@@ -1,11 +1,12 @@
 -- Lists of seats, for callers: seats that are taken out of a list and given back to it.
-use Rattle.std.proofs.Common.{◌≡◌, ◌+◌, List, [], ◌∷◌, ◌++◌, length, refl, sym, ap, ◌∙◌, subst, ⊎_elim, None, length-append}
+use Rattle.std.proofs.Common.{◌≡◌, ℕ, ◌+◌, List, [], ◌∷◌, ◌++◌, length, refl, sym, ap, ◌∙◌, subst, ⊎_elim, None, length-append}
 use mathlib.Core.Option.{some-ne-none}
 use lib.ListN.{get_elem?}
 use Rattle.atomic_table.proofs.Lists.{at_longer, at_last, at_snoc}
 use Rattle.settle_core.specs.Meant.{Meant}
+use Rattle.board_rule.specs.Maps.{IsAmong}
 use Rattle.settle_board.specs.Boards.{IsOf, view_of}
-use Rattle.settle_board.specs.Seating.{blank, AreNew, AreBack}
+use Rattle.settle_board.specs.Seating.{blank, AreNew, AreBack, SeenBy}
 use Rattle.settle_board.specs.declared.board.Board.{Board}
 use Rattle.settle_board.specs.declared.board.BoardSeat.{BoardSeat}
 
@@ -21,6 +22,14 @@ module _ {X T O : Type 0} (meant : X → Meant T O) (b : Board X T O) (seats sea
 
   pub one_longer : length seats ≡ length seats' + 1
   one_longer = ap length e ∙ length-append seats' (s ∷ [])
+
+-- what the seats of a list saw settled
+module _ {X T O : Type 0} (k : ℕ) (seats seats' : List (BoardSeat X T O)) (s : BoardSeat X T O) (e : seats ≡ seats' ++ s ∷ []) where
+  pub last_saw : IsAmong k (view_of s).seen → SeenBy k seats
+  last_saw h = (length seats', s, ap (λ l. get_elem? l (length seats')) e ∙ at_last seats' s (length seats') refl, h)
+
+  pub others_saw : SeenBy k seats' → SeenBy k seats
+  others_saw h = (h.0, h.1, ap (λ l. get_elem? l h.0) e ∙ at_longer seats' (s ∷ []) h.0 h.1 h.2, h.3)
 
 module _ {X T O : Type 0} (meant : X → Meant T O) (b : Board X T O) where
   pub none_back : AreBack meant b []

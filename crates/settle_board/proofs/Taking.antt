@@ -1,4 +1,4 @@
--- One more outcome comes out of a closed table.
+-- The loop of `finish`, one turn further.
 use Rattle.std.proofs.Common.{Bool, false, get_or, set, get_or-set_other, ◌≡◌, ◌≢◌, ℕ, zero, suc, ◌+◌, ◌<◌, List, [], ◌∷◌, ◌++◌, length, sym, refl, ap, ◌∙◌, subst, arith}
 use mathlib.Core.Option.{some}
 use lib.ListN.{get_elem?}

@@ -1,10 +1,10 @@
--- What clauses read of a board and of a seat.
+-- When a seat belongs to a board, and what the two tell a caller.
 use Rattle.std.specs.Prelude.{◌≡◌, ◌⊎◌, ℕ, ◌+◌, ◌<◌, [], Some, None}
 use Rattle.atomic_table.specs.declared.shared.Seat.{Seat}
 use Rattle.atomic_table.specs.Seated.{TableId}
 use Rattle.settle_core.specs.Meant.{Meant}
 use Rattle.board_rule.specs.Maps.{IsAmong}
-use Rattle.board_rule.specs.Standing.{next_read}
+use Rattle.board_rule.specs.Standing.{next_read, taken_at}
 use Rattle.board_rule.specs.Views.{hold_on}
 use Rattle.board_rule.specs.declared.home.Home.{Home}
 use Rattle.board_rule.specs.declared.view.Hold.{Hold}
@@ -15,7 +15,7 @@ use Rattle.settle_board.specs.declared.board.BoardSeat.{BoardSeat}
 
 module _ {X T O : Type 0} where
   -- The seat is one of the table with this name, which has this key and the sizes of the meaning. It has one share and no slot
-  pub record IsSeat (m : Meant T O) (table : TableId) (key : Key X) (s : Seat (Home T O) (View X)) : Type 0 where
+  pub record IsSeat (m : Meant T O) (table : TableId) (key : Key X) (s : Seat (Home T O) (View X T)) : Type 0 where
     pub words : table.words ≡ m.pieces + 1
     pub slots : table.slots ≡ m.pieces
     pub at : s.table_id ≡ table
@@ -29,7 +29,7 @@ module _ {X T O : Type 0} where
   meaning_of b = b.key.meaning
 
   -- what the seat knows
-  abbrev pub view_of : BoardSeat X T O → View X
+  abbrev pub view_of : BoardSeat X T O → View X T
   view_of s = s.seat.me.0
 
   -- the seat is one of the board
@@ -37,5 +37,5 @@ module _ {X T O : Type 0} where
   IsOf meant b s = IsSeat (meant b.key.meaning) b.table.shared.table_id b.key s.seat
 
 -- each of the first n reads of the held piece k was seen settled, or the task had taken it when it was claimed
-abbrev pub HasSeen : {T O X : Type 0} → Meant T O → ℕ → ℕ → View X → Type 0
-HasSeen m k n v = (h : Hold) → hold_on k v.held ≡ Some h → (i : ℕ) → i < n → (i < h.taken) ⊎ IsAmong (next_read m k i) v.seen
+abbrev pub HasSeen : {T O X : Type 0} → Meant T O → ℕ → ℕ → View X T → Type 0
+HasSeen {T} m k n v = (h : Hold T) → hold_on k v.held ≡ Some h → (i : ℕ) → i < n → (i < taken_at m h.claimed) ⊎ IsAmong (next_read m k i) v.seen

@@ -1,4 +1,4 @@
--- The words and the slots of a closed table.
+-- Which slots have outcomes when no seat uses the table any more.
 use Rattle.std.specs.Prelude.{◌≡◌, ℕ, ◌<◌, List}
 use mathlib.Core.Option.{some}
 use lib.ListN.{get_elem?}

@@ -1,12 +1,14 @@
--- The seats of a board when it is new, and when it is closed.
-use Rattle.std.specs.Prelude.{◌≡◌, ◌⊎◌, ℕ, ◌+◌, ◌<◌, List, [], ◌∷◌, None}
+-- Lists of seats: those of a new board, and those with which one is closed.
+use Rattle.std.specs.Prelude.{◌≡◌, ◌↔◌, ℕ, ◌+◌, ◌<◌, List, [], length, slice_index, None}
 use mathlib.Core.Option.{some}
 use lib.ListN.{get_elem?}
 use Rattle.atomic_table.specs.declared.shared.Seat.{Seat}
 use Rattle.atomic_table.specs.Seated.{TableId}
+use Rattle.atomic_table.specs.Table.{State}
 use Rattle.settle_core.specs.Meant.{Meant}
 use Rattle.settle_core.specs.declared.meaning.Meaning.{Ghosts}
-use Rattle.board_rule.specs.Maps.{IsAmong, total}
+use Rattle.board_rule.specs.Maps.{IsAmong, HasSome, total}
+use Rattle.board_rule.specs.Rule.{OneState}
 use Rattle.board_rule.specs.Views.{first_view}
 use Rattle.board_rule.specs.declared.home.Home.{Home}
 use Rattle.board_rule.specs.declared.view.Key.{Key}
@@ -17,7 +19,7 @@ use Rattle.settle_board.specs.declared.board.BoardSeat.{BoardSeat}
 use Rattle.settle_board.specs.declared.board.Seats.{Seats}
 
 -- a view with a share of n seats, and nothing else in it
-abbrev pub blank : {X : Type 0} → Key X → ℕ → View X
+abbrev pub blank : {X T : Type 0} → Key X → ℕ → View X T
 blank key n = record (first_view key) { share = n }
 
 module _ {X T O : Type 0} where
@@ -25,12 +27,12 @@ module _ {X T O : Type 0} where
   seats_in s = s.list.items
 
   -- how many seats the board of the list was made with
-  abbrev pub count_of : {ghosts : Ghosts X T O} → Seats X T O ghosts → ℕ
-  count_of s = s.count
+  abbrev pub room_of : {ghosts : Ghosts X T O} → Seats X T O ghosts → ℕ
+  room_of s = s.count
 
   -- how many seats the board was made with
-  abbrev pub seats_of : Board X T O → ℕ
-  seats_of b = b.key.seats
+  abbrev pub seat_count : Board X T O → ℕ
+  seat_count b = b.key.seats
 
   -- each is a seat of the board, and nothing was done with it yet
   abbrev pub AreNew : (X → Meant T O) → Board X T O → List (BoardSeat X T O) → Type 0
@@ -40,24 +42,32 @@ module _ {X T O : Type 0} where
   abbrev pub AreBack : (X → Meant T O) → Board X T O → List (BoardSeat X T O) → Type 0
   AreBack meant b seats = (i : ℕ) (s : BoardSeat X T O) → get_elem? seats i ≡ some s → IsOf meant b s × ((view_of s).held ≡ []) × ((view_of s).lent ≡ None)
 
-  -- one of the seats settled the piece k, or saw it settled
+  -- One of the seats settled the piece k, or saw it settled; one of them found it fresh and claimed it
   abbrev pub SeenBy : ℕ → List (BoardSeat X T O) → Type 0
-  SeenBy k [] = ⊥
-  SeenBy k (s ∷ ss) = IsAmong k (view_of s).seen ⊎ SeenBy k ss
+  SeenBy k seats = HasSome (λ (s : BoardSeat X T O). IsAmong k (view_of s).seen) seats
+
+  abbrev pub BegunBy : ℕ → List (BoardSeat X T O) → Type 0
+  BegunBy k seats = HasSome (λ (s : BoardSeat X T O). IsAmong k (view_of s).begun) seats
 
   -- the steps that the seats spent
   abbrev pub spent_by : List (BoardSeat X T O) → ℕ
   spent_by seats = total (λ (s : BoardSeat X T O). (view_of s).spent) seats
 
+  -- The piece k has the word w in some state that the rule of the board allows, in which one view knows what the seats knew together
+  abbrev pub StandsWith : (X → Meant T O) → Board X T O → List (BoardSeat X T O) → ℕ → ℕ → Type 0
+  StandsWith meant b seats k w = (s : State (Home T O) (View X T)) × (id : ℕ) × (v : View X T) × OneState meant b.key s × (get_elem? s.views id ≡ some v)
+      × (slice_index s.words k ≡ w) × (v.share ≡ length seats) × (v.spent ≡ spent_by seats)
+      × ((j : ℕ) → IsAmong j v.seen ↔ SeenBy j seats) × ((j : ℕ) → IsAmong j v.begun ↔ BegunBy j seats)
+
   -- a seat that stands for n, and has nothing but this share
-  pub record Dealing (m : Meant T O) (table : TableId) (key : Key X) (n : ℕ) (s : Seat (Home T O) (View X)) : Type 0 where
+  pub record Dealing (m : Meant T O) (table : TableId) (key : Key X) (n : ℕ) (s : Seat (Home T O) (View X T)) : Type 0 where
     pub words : table.words ≡ m.pieces + 1
     pub slots : table.slots ≡ m.pieces
     pub at : s.table_id ≡ table
     pub me : s.me ≡ (blank key n, [])
 
   -- a seat that stands for n, and has no piece
-  pub record Gathered (m : Meant T O) (table : TableId) (key : Key X) (n : ℕ) (s : Seat (Home T O) (View X)) : Type 0 where
+  pub record Gathered (m : Meant T O) (table : TableId) (key : Key X) (n : ℕ) (s : Seat (Home T O) (View X T)) : Type 0 where
     pub words : table.words ≡ m.pieces + 1
     pub slots : table.slots ≡ m.pieces
     pub at : s.table_id ≡ table

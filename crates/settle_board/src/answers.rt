@@ -3,12 +3,12 @@
 use cxx_base::PieceNo;
 use settle_core::Meaning;
 
-/// What `claim` answers.
+/// Whether a seat got the piece that it claimed, and if not, what stood in the way.
 #[derive(Drop)]
 pub enum Claim<M: Meaning> {
     /// The piece was fresh, and the seat holds it.
     Start,
-    /// The piece was parked, and the seat holds it. This is the very task that was parked.
+    /// The piece was parked, and the seat holds it. This is the task that lay in its slot, and the seat's hold names it.
     Resume(M::Task),
     /// The piece had this word: it is held or settled, or another seat was faster.
     NotNow(u64),
@@ -16,7 +16,7 @@ pub enum Claim<M: Meaning> {
     StillParked { on: PieceNo, word: u64 },
 }
 
-/// What `lend` answers.
+/// Whether a seat got the outcome that it wanted to borrow, and if not, what stood in the way.
 #[derive(Drop)]
 pub enum Lend<M: Meaning> {
     /// The outcome. The seat has it until it gives it back.
@@ -27,9 +27,11 @@ pub enum Lend<M: Meaning> {
     Busy(u64),
 }
 
-/// A piece that is not settled when a board is closed, and its word.
+/// Why a closed board has no outcomes: a piece was left.
 #[derive(Clone, Copy, Debug, PartialEq, Eq)]
 pub struct Unsettled {
+    /// The first that no seat saw settled.
     pub piece: PieceNo,
+    /// 0 where it is fresh, 8 + j where it is parked on the piece j.
     pub word: u64,
 }

@@ -12,7 +12,7 @@ use std::alloc::Global;
 #[derive(Drop)]
 pub struct Board<M: Meaning> {
     pub(crate) key: Key<M>,
-    pub(crate) table: Table<Home<M::Task, M::Outcome>, View<M>, Key<M>, Law<M>, Global>,
+    pub(crate) table: Table<Home<M::Task, M::Outcome>, View<M, M::Task>, Key<M>, Law<M>, Global>,
     // Room for the outcomes, so that closing takes no memory.
     pub(crate) room: Vec<M::Outcome>,
     ghost keyed: { table.shared.key ≡ key },
@@ -20,13 +20,13 @@ pub struct Board<M: Meaning> {
     ghost roomy: { (room.items ≡ []) × (table.shared.table_id.slots ≤ vec_capacity room) },
 }
 
-/// A worker's token, with its view. It has no bytes.
+/// What a worker needs to use the board. It has no bytes: what it stands for, the view of the worker, is in proofs alone.
 #[derive(Drop)]
 pub struct BoardSeat<M: Meaning> {
-    pub(crate) seat: Seat<Home<M::Task, M::Outcome>, View<M>>,
+    pub(crate) seat: Seat<Home<M::Task, M::Outcome>, View<M, M::Task>>,
 }
 
-/// The seats of a board that are in.
+/// The seats of a board that no worker has.
 #[derive(Drop)]
 pub struct Seats<M: Meaning> {
     pub(crate) list: Vec<BoardSeat<M>>,

@@ -3,7 +3,7 @@
 ghost use Rattle.std.specs.Prelude.{◌≡◌, ◌≢◌, ◌⊎◌, ◌+◌, ◌-◌, ◌<◌, ◌≤◌, MatchResult, true, false};
 ghost use Rattle.board_rule.specs.Maps.{IsAmong};
 ghost use Rattle.board_rule.specs.Standing.{next_read};
-ghost use Rattle.board_rule.specs.Views.{fresh_hold, task_hold, after_look, after_claim, Knows};
+ghost use Rattle.board_rule.specs.Views.{task_hold, after_look, after_start, after_claim, Knows};
 ghost use Rattle.board_rule.specs.Plays.{IsWordOf, CanPark};
 ghost use Rattle.board_rule.specs.declared.view.Entry.TheVariants.{Looks, ClaimsFresh, ClaimsParked};
 ghost use Rattle.settle_board.specs.Boards.{IsOf, meaning_of, view_of};
@@ -11,7 +11,7 @@ ghost use Rattle.settle_board.specs.Answers.{ClaimSays};
 
 use crate::answers::Claim;
 use crate::board::{Board, BoardSeat};
-use board_rule::{ClaimFresh, ClaimParked, Home, Leave, Look};
+use board_rule::{ClaimFresh, ClaimParked, Home, Look, PutSlotBack};
 use cxx_base::PieceNo;
 use settle_core::Meaning;
 
@@ -62,7 +62,8 @@ impl<M: Meaning> Board<M> {
         requires of { IsOf (λ x. M.meant x) self.now seat.old }
         requires piece { k.0 < (M.meant (meaning_of self.now)).pieces }
         ensures of { IsOf (λ x. M.meant x) self.now seat.new }
-        ensures won { result ≡ 0 → view_of seat.new ≡ after_claim (ClaimsFresh k.0 0 true) (fresh_hold k.0) (view_of seat.old) }
+        ensures won { result ≡ 0 → view_of seat.new ≡ after_start k.0 (view_of seat.old) }
+        ensures word { IsWordOf k.0 result }
         ensures lost { result ≢ 0 → view_of seat.new ≡ after_look (ClaimsFresh k.0 result false) k.0 result (view_of seat.old) }
     {
         self.table
@@ -80,8 +81,8 @@ impl<M: Meaning> Board<M> {
         ensures answer { MatchResult result
             (λ t. CanPark (M.meant (meaning_of self.now)) k.0 t
             × (word ≡ 8 + next_read (M.meant (meaning_of self.now)) k.0 ((M.meant (meaning_of self.now)).taken t))
-            × (view_of seat.new ≡ after_claim (ClaimsParked k.0 word true) (task_hold (M.meant (meaning_of self.now)) k.0 t) (view_of seat.old)))
-            (λ w. (w ≢ word) × (view_of seat.new ≡ after_look (ClaimsParked k.0 w false) k.0 w (view_of seat.old))) }
+            × (view_of seat.new ≡ after_claim (ClaimsParked k.0 word true) (task_hold k.0 t) (view_of seat.old)))
+            (λ w. (w ≢ word) × IsWordOf k.0 w × (view_of seat.new ≡ after_look (ClaimsParked k.0 w false) k.0 w (view_of seat.old))) }
     {
         let shared = &self.table.shared;
         let found = shared.compare_exchange::<ClaimParked>(&mut seat.seat, k.0 as usize, word, 1);
@@ -89,7 +90,7 @@ impl<M: Meaning> Board<M> {
             return Err(found);
         }
         let home = shared.exchange(&mut seat.seat, k.0 as usize, Home::Empty);
-        shared.load::<Leave>(&mut seat.seat, k.0 as usize);
+        shared.load::<PutSlotBack>(&mut seat.seat, k.0 as usize);
         let Home::Task(task) = home else {
             unreachable!()
         };

@@ -1,11 +1,11 @@
-//! A board is closed once all its seats are back.
+//! The end of a board, which takes all its seats.
 
-ghost use Rattle.std.specs.Prelude.{◌≡◌, ◌⊎◌, ℕ, ◌+◌, ◌<◌, ◌≤◌, length, MatchResult};
+ghost use Rattle.std.specs.Prelude.{◌≡◌, ◌⊎◌, ◌↔◌, ℕ, ◌+◌, ◌<◌, ◌≤◌, length, IfOk, IfErr, OnOk};
 ghost use Rattle.settle_core.specs.Meant.{fold};
 ghost use Rattle.board_rule.specs.Maps.{IsAmong};
 ghost use Rattle.board_rule.specs.Rule.{work};
 ghost use Rattle.settle_board.specs.Boards.{meaning_of};
-ghost use Rattle.settle_board.specs.Seating.{AreBack, Gathered, SeenBy, seats_in, seats_of, spent_by};
+ghost use Rattle.settle_board.specs.Seating.{AreBack, Gathered, SeenBy, BegunBy, StandsWith, seats_in, seat_count, spent_by};
 
 use crate::answers::Unsettled;
 use crate::board::{Board, BoardSeat, Seats};
@@ -16,16 +16,20 @@ use cxx_base::OutcomeList;
 use settle_core::Meaning;
 
 impl<M: Meaning> Board<M> {
-    /// The outcomes in order, once all seats are back. They are those of work in order, and the seats have spent their steps.
-    /// Else the first piece that is not settled, with its word: it is fresh or parked, and no seat saw it settled.
+    /// The outcomes in order, once all seats are back. They are those of work in order, the seats have spent their steps, and each
+    /// piece was seen settled by some seat. Else the first piece that no seat saw settled, with its word: 0, where no seat ever
+    /// claimed it, or the word of a parked piece.
     pub fn close(self, seats: Seats<M>) -> Result<OutcomeList<M::Outcome>, Unsettled>
         requires seats { AreBack (λ x. M.meant x) self (seats_in seats) }
-        requires all { length (seats_in seats) ≡ seats_of self }
-        ensures { MatchResult result
-            (λ outcomes. (outcomes ≡ fold (M.meant (meaning_of self)) (M.meant (meaning_of self)).pieces) × (spent_by (seats_in seats) ≡ work (M.meant (meaning_of self))))
-            (λ unsettled. (unsettled.piece.0 < (M.meant (meaning_of self)).pieces)
-            × ((unsettled.word ≡ 0) ⊎ ((8 ≤ unsettled.word) × (unsettled.word < 8 + unsettled.piece.0)))
-            × ¬ SeenBy unsettled.piece.0 (seats_in seats)) }
+        requires all { length (seats_in seats) ≡ seat_count self }
+        ensures outcomes { IfOk result (λ outcomes. outcomes ≡ fold (M.meant (meaning_of self)) (M.meant (meaning_of self)).pieces) }
+        ensures spent { OnOk result (spent_by (seats_in seats) ≡ work (M.meant (meaning_of self))) }
+        ensures seen { OnOk result ((k : ℕ) → k < (M.meant (meaning_of self)).pieces → SeenBy k (seats_in seats)) }
+        ensures first { IfErr result (λ unsettled. (unsettled.piece.0 < (M.meant (meaning_of self)).pieces)
+            × ((k : ℕ) → k < unsettled.piece.0 → SeenBy k (seats_in seats)) × ¬ SeenBy unsettled.piece.0 (seats_in seats)) }
+        ensures word { IfErr result (λ unsettled. ((unsettled.word ≡ 0) × ¬ BegunBy unsettled.piece.0 (seats_in seats))
+            ⊎ ((8 ≤ unsettled.word) × (unsettled.word < 8 + unsettled.piece.0) × BegunBy unsettled.piece.0 (seats_in seats))) }
+        ensures stands { IfErr result (λ unsettled. StandsWith (λ x. M.meant x) self (seats_in seats) unsettled.piece.0 unsettled.word) }
     {
         let Seats { mut list, count: _ } = seats;
         let last = list.pop();
@@ -44,17 +48,18 @@ impl<M: Meaning> Board<M> {
     }
 }
 
-// The seat `first` takes over what the others have.
+// Joins each seat of the list to `first`, which then stands for all of them.
 fn gather<M: Meaning>(
     board: &Board<M>,
-    mut first: Seat<Home<M::Task, M::Outcome>, View<M>>,
+    mut first: Seat<Home<M::Task, M::Outcome>, View<M, M::Task>>,
     mut list: Vec<BoardSeat<M>>,
-) -> Seat<Home<M::Task, M::Outcome>, View<M>>
+) -> Seat<Home<M::Task, M::Outcome>, View<M, M::Task>>
     requires first { Gathered (M.meant (meaning_of board.now)) board.now.table.shared.table_id board.now.key 1 first }
     requires list { AreBack (λ x. M.meant x) board.now list.items }
     ensures at { Gathered (M.meant (meaning_of board.now)) board.now.table.shared.table_id board.now.key (1 + length list.items) result }
     ensures spent { result.me.0.spent ≡ first.me.0.spent + spent_by list.items }
-    ensures seen { (k : ℕ) → IsAmong k first.me.0.seen ⊎ SeenBy k list.items → IsAmong k result.me.0.seen }
+    ensures seen { (k : ℕ) → IsAmong k result.me.0.seen ↔ (IsAmong k first.me.0.seen ⊎ SeenBy k list.items) }
+    ensures begun { (k : ℕ) → IsAmong k result.me.0.begun ↔ (IsAmong k first.me.0.begun ⊎ BegunBy k list.items) }
 {
     while let Some(other) = list.pop() {
         let BoardSeat { seat } = other;

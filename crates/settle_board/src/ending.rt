@@ -2,7 +2,7 @@
 
 ghost use Rattle.std.specs.Prelude.{◌≡◌, ◌<◌, ◌≤◌, ◌+◌, ◌-◌, length, Some, IsSome};
 ghost use Rattle.settle_core.specs.Meant.{outcome as outcome_in_order, reads};
-ghost use Rattle.board_rule.specs.Standing.{next_read};
+ghost use Rattle.board_rule.specs.Standing.{next_read, steps_at, taken_at};
 ghost use Rattle.board_rule.specs.Views.{hold_on, after_settle, after_park, last_unsettled};
 ghost use Rattle.board_rule.specs.Rule.{work};
 ghost use Rattle.board_rule.specs.Plays.{CanPark};
@@ -10,7 +10,7 @@ ghost use Rattle.board_rule.specs.declared.view.Hold.{Hold};
 ghost use Rattle.settle_board.specs.Boards.{IsOf, HasSeen, meaning_of, view_of};
 
 use crate::board::{Board, BoardSeat};
-use board_rule::{Home, Park, Reach, Settle};
+use board_rule::{Home, Park, Settle, TakeSlot};
 use cxx_base::PieceNo;
 use settle_core::Meaning;
 
@@ -24,12 +24,12 @@ impl<M: Meaning> Board<M> {
         requires is_outcome { outcome ≡ outcome_in_order (M.meant (meaning_of self.now)) k.0 }
         requires reads { HasSeen (M.meant (meaning_of self.now)) k.0 (length (reads (M.meant (meaning_of self.now)) k.0)) (view_of seat.old) }
         ensures of { IsOf (λ x. M.meant x) self.now seat.new }
-        ensures view { (h : Hold) → hold_on k.0 (view_of seat.old).held ≡ Some h →
-            view_of seat.new ≡ after_settle k.0 ((M.meant (meaning_of self.now)).outcome_steps outcome - h.steps) (view_of seat.old) }
+        ensures view { (h : Hold M.Task) → hold_on k.0 (view_of seat.old).held ≡ Some h →
+            view_of seat.new ≡ after_settle k.0 ((M.meant (meaning_of self.now)).outcome_steps outcome - steps_at (M.meant (meaning_of self.now)) h.claimed) (view_of seat.old) }
         ensures within { (view_of seat.new).spent ≤ work (M.meant (meaning_of self.now)) }
     {
         let shared = &self.table.shared;
-        shared.load::<Reach>(&mut seat.seat, k.0 as usize);
+        shared.load::<TakeSlot>(&mut seat.seat, k.0 as usize);
         let empty = shared.exchange(&mut seat.seat, k.0 as usize, Home::Outcome(outcome));
         let Home::Empty = empty else { unreachable!() };
         shared.store::<Settle>(&mut seat.seat, k.0 as usize, 3);
@@ -44,16 +44,17 @@ impl<M: Meaning> Board<M> {
         requires is_task { CanPark (M.meant (meaning_of self.now)) k.0 task }
         requires next { on.0 ≡ next_read (M.meant (meaning_of self.now)) k.0 ((M.meant (meaning_of self.now)).taken task) }
         requires unsettled { last_unsettled k.0 (view_of seat.old).trail ≡ Some on.0 }
-        requires goes_on { (h : Hold) → hold_on k.0 (view_of seat.old).held ≡ Some h →
-            (h.taken ≤ (M.meant (meaning_of self.now)).taken task) × (h.steps ≤ (M.meant (meaning_of self.now)).task_steps task) }
+        requires goes_on { (h : Hold M.Task) → hold_on k.0 (view_of seat.old).held ≡ Some h →
+            (taken_at (M.meant (meaning_of self.now)) h.claimed ≤ (M.meant (meaning_of self.now)).taken task)
+            × (steps_at (M.meant (meaning_of self.now)) h.claimed ≤ (M.meant (meaning_of self.now)).task_steps task) }
         requires reads { HasSeen (M.meant (meaning_of self.now)) k.0 ((M.meant (meaning_of self.now)).taken task) (view_of seat.old) }
         ensures of { IsOf (λ x. M.meant x) self.now seat.new }
-        ensures view { (h : Hold) → hold_on k.0 (view_of seat.old).held ≡ Some h →
-            view_of seat.new ≡ after_park k.0 (8 + on.0) ((M.meant (meaning_of self.now)).task_steps task - h.steps) (view_of seat.old) }
+        ensures view { (h : Hold M.Task) → hold_on k.0 (view_of seat.old).held ≡ Some h →
+            view_of seat.new ≡ after_park k.0 (8 + on.0) task ((M.meant (meaning_of self.now)).task_steps task - steps_at (M.meant (meaning_of self.now)) h.claimed) (view_of seat.old) }
         ensures within { (view_of seat.new).spent ≤ work (M.meant (meaning_of self.now)) }
     {
         let shared = &self.table.shared;
-        shared.load::<Reach>(&mut seat.seat, k.0 as usize);
+        shared.load::<TakeSlot>(&mut seat.seat, k.0 as usize);
         let empty = shared.exchange(&mut seat.seat, k.0 as usize, Home::Task(task));
         let Home::Empty = empty else { unreachable!() };
         shared.store::<Park>(&mut seat.seat, k.0 as usize, 8 + on.0 as u64);

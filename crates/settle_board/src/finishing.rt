@@ -13,7 +13,7 @@ use board_rule::Home;
 use cxx_base::PieceNo;
 use std::alloc::Global;
 
-/// The outcomes in order, or the first piece whose word is not 3.
+/// Takes each outcome out of its slot, piece by piece, until a word other than 3 ends it.
 pub(crate) fn finish<T: Drop, O: Drop>(
     mut closed: Closed<Home<T, O>, Global>,
     mut room: Vec<O>,

@@ -6,16 +6,16 @@ ghost use Rattle.board_rule.specs.Views.{after_give_back};
 ghost use Rattle.settle_board.specs.Boards.{IsOf, meaning_of, view_of};
 ghost use Rattle.settle_board.specs.Answers.{LendSays};
 
-use crate::answers::Lend as Answer;
+use crate::answers::Lend;
 use crate::board::{Board, BoardSeat};
-use board_rule::{GiveBack, Home, Leave, Lend, Reach};
+use board_rule::{GiveBack, Home, LendStep, PutSlotBack, TakeSlot};
 use cxx_base::PieceNo;
 use settle_core::Meaning;
 
 impl<M: Meaning> Board<M> {
     /// Borrows the outcome of a piece that is settled, where no seat has it. A seat borrows one at a time. The answer has its
     /// cause, and tells the view.
-    pub fn lend(&self, seat: &mut BoardSeat<M>, j: PieceNo) -> Answer<M>
+    pub fn lend(&self, seat: &mut BoardSeat<M>, j: PieceNo) -> Lend<M>
         requires of { IsOf (λ x. M.meant x) self.now seat.old }
         requires piece { j.0 < (M.meant (meaning_of self.now)).pieces }
         requires none_lent { (view_of seat.old).lent ≡ None }
@@ -23,19 +23,19 @@ impl<M: Meaning> Board<M> {
         ensures answer { LendSays (M.meant (meaning_of self.now)) j.0 (view_of seat.old) result (view_of seat.new) }
     {
         let shared = &self.table.shared;
-        let found = shared.compare_exchange::<Lend>(&mut seat.seat, j.0 as usize, 3, 4);
+        let found = shared.compare_exchange::<LendStep>(&mut seat.seat, j.0 as usize, 3, 4);
         if found == 4 {
-            return Answer::Busy(found);
+            return Lend::Busy(found);
         }
         if found != 3 {
-            return Answer::NotSettled(found);
+            return Lend::NotSettled(found);
         }
         let home = shared.exchange(&mut seat.seat, j.0 as usize, Home::Empty);
-        shared.load::<Leave>(&mut seat.seat, j.0 as usize);
+        shared.load::<PutSlotBack>(&mut seat.seat, j.0 as usize);
         let Home::Outcome(outcome) = home else {
             unreachable!()
         };
-        Answer::Got(outcome)
+        Lend::Got(outcome)
     }
 
     /// Gives back the outcome that is lent to the seat.
@@ -48,7 +48,7 @@ impl<M: Meaning> Board<M> {
         ensures view { view_of seat.new ≡ after_give_back j.0 (view_of seat.old) }
     {
         let shared = &self.table.shared;
-        shared.load::<Reach>(&mut seat.seat, j.0 as usize);
+        shared.load::<TakeSlot>(&mut seat.seat, j.0 as usize);
         let empty = shared.exchange(&mut seat.seat, j.0 as usize, Home::Outcome(outcome));
         let Home::Empty = empty else { unreachable!() };
         shared.store::<GiveBack>(&mut seat.seat, j.0 as usize, 3);

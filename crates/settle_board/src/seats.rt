@@ -1,7 +1,7 @@
 //! Seats go out to workers, and come back.
 
 ghost use Rattle.std.specs.Prelude.{◌≡◌, ◌<◌, [], ◌∷◌, ◌++◌, MatchOption, length};
-ghost use Rattle.settle_board.specs.Seating.{seats_in, count_of};
+ghost use Rattle.settle_board.specs.Seating.{seats_in, room_of};
 
 use crate::board::{BoardSeat, Seats};
 use settle_core::Meaning;
@@ -12,16 +12,16 @@ impl<M: Meaning> Seats<M> {
         ensures seat { MatchOption result
             ((seats_in self.old ≡ []) × (seats_in self.new ≡ []))
             (λ seat. seats_in self.old ≡ seats_in self.new ++ seat ∷ []) }
-        ensures count { count_of self.new ≡ count_of self.old }
+        ensures count { room_of self.new ≡ room_of self.old }
     {
         self.list.pop()
     }
 
     /// Puts a seat at the end.
     pub fn give(&mut self, seat: BoardSeat<M>)
-        requires room { length (seats_in self.old) < count_of self.old }
+        requires room { length (seats_in self.old) < room_of self.old }
         ensures seat { seats_in self.new ≡ seats_in self.old ++ seat ∷ [] }
-        ensures count { count_of self.new ≡ count_of self.old }
+        ensures count { room_of self.new ≡ room_of self.old }
     {
         self.list.push_reserved(seat);
     }

@@ -9,7 +9,7 @@ use board_rule::{LookAtStop, Stop};
 use settle_core::Meaning;
 
 impl<M: Meaning> Board<M> {
-    /// Sets the stop word, for good.
+    /// Tells all workers to stop. No call takes this back.
     pub fn stop(&self, seat: &mut BoardSeat<M>)
         requires of { IsOf (λ x. M.meant x) self.now seat.old }
         ensures of { IsOf (λ x. M.meant x) self.now seat.new }

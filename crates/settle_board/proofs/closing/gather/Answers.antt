@@ -1,8 +1,8 @@
-use Rattle.std.proofs.Common.{◌≡◌, ◌+◌, ap, ⊎_elim, inl, inr, arith, length}
-use Rattle.board_rule.specs.Maps.{IsAmong}
+use Rattle.std.proofs.Common.{◌≡◌, ◌+◌, ap, arith, length}
+use Rattle.board_rule.specs.declared.view.View.{View}
 use Rattle.settle_board.specs.Boards.{view_of}
-use Rattle.settle_board.specs.Seating.{SeenBy, spent_by}
-use Rattle.settle_board.proofs.Joined.{may_join, gathered_more, last_back, rest_back, last_spent, last_length, last_seen, seen_both, seen_none}
+use Rattle.settle_board.specs.Seating.{spent_by}
+use Rattle.settle_board.proofs.Joined.{may_join, gathered_more, last_back, rest_back, last_spent, last_length, by_joined, both, none_left}
 use Rattle.settle_board.proofs.closing.gather.Goals as goal
 
 pub join_seat-requires : goal.join_seat-requires
@@ -21,11 +21,12 @@ loop-other-preserved g c = let v = c.loop-other.invariant in let p = c.in-Some.e
       back = rest_back _ _ _ p.items (λ x. g.M.Meaning.meant x) c.args.board.now v.back;
       count = (let q = v.count in omega arith);
       spent = (let q = v.spent in omega arith);
-      seen = λ k h. ⊎_elim (λ (x : IsAmong k c.loop-other.first.me.0.seen). inl (seen_both (λ x. g.M.Meaning.meant x) c.args.board.now c.loop-other.first.me.0 (view_of c.in-Some.other) c.join_seat.new.seat.me c.loop-other.first.me.1 j.2 k (inl x)))
-          (λ (x : SeenBy k c.loop-other.list.items). ⊎_elim (λ (y : SeenBy k c.pop.new.self.items). inr y) (λ (y : IsAmong k (view_of c.in-Some.other).seen). inl (seen_both (λ x. g.M.Meaning.meant x) c.args.board.now c.loop-other.first.me.0 (view_of c.in-Some.other) c.join_seat.new.seat.me c.loop-other.first.me.1 j.2 k (inr y)))
-          (last_seen _ _ _ p.items k x)) (v.seen k h);
+      seen = λ k. (let q = by_joined c.loop-other.list.items c.pop.new.self.items c.in-Some.other p.items (λ (x : View _ _). x.seen) k c.loop-other.first.me.0.seen c.join_seat.new.seat.me.0.seen (ap (λ x. x.0.seen) j.2) in both q (v.seen k));
+      begun = λ k. (let q = by_joined c.loop-other.list.items c.pop.new.self.items c.in-Some.other p.items (λ (x : View _ _). x.begun) k c.loop-other.first.me.0.begun c.join_seat.new.seat.me.0.begun (ap (λ x. x.0.begun) j.2) in both q (v.begun k));
     }
 
 pub returns-clause-seen : goal.returns-clause-seen
-returns-clause-seen g c k h = ⊎_elim (λ (x : IsAmong k c.loop-other.first.me.0.seen). x)
-    (λ (x : SeenBy k c.loop-other.list.items). absurd (seen_none k c.loop-other.list.items (let d = c.in_default.ensures.cases.0 in let o = c.loop-other.list.ok in omega arith) x)) (c.loop-other.invariant.seen k h)
+returns-clause-seen g c k = none_left (λ (x : View _ _). x.seen) k c.loop-other.first.me.0.seen c.loop-other.list.items (let d = c.in_default.ensures.cases.0 in let o = c.loop-other.list.ok in omega arith) (c.loop-other.invariant.seen k)
+
+pub returns-clause-begun : goal.returns-clause-begun
+returns-clause-begun g c k = none_left (λ (x : View _ _). x.begun) k c.loop-other.first.me.0.begun c.loop-other.list.items (let d = c.in_default.ensures.cases.0 in let o = c.loop-other.list.ok in omega arith) (c.loop-other.invariant.begun k)

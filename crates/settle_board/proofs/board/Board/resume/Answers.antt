@@ -18,4 +18,4 @@ pub load-requires : goal.load-requires
 load-requires g c = let e = c.compare_exchange-found.ensures in let a = c.requires.of in let x = c.exchange-home.ensures in
     let q = resumed_at (λ x. g.M.Meaning.meant x) c.args.self.now.key c.args.k.0 c.args.self.now.table.shared.table_id.slots c.args.word c.compare_exchange-found.result c.args.seat.now.seat.me c.compare_exchange-found.new.seat.me a.about c.if-found-word.false e.2 in
     may_leave_held (λ x. g.M.Meaning.meant x) g.met.M.Meaning.lawful _ _ _ c.args.self.now.keyed _ a _ c.requires.piece _ _ c.args.seat.now.seat.me.1 (x.0 ∙ e.0) a.share refl
-    (task_hold (g.M.Meaning.meant c.args.self.now.key.meaning) c.args.k.0 q.0) (exchanged_to _ _ _ _ _ q.3 _ _ x.3) (hold_here _ _ _ refl)
+    (task_hold c.args.k.0 q.0) (exchanged_to _ _ _ _ _ q.3 _ _ x.3) (hold_here _ _ _ refl)

@@ -1,0 +1,3 @@
+pub mod ThreeFacts
+pub mod Workers
+pub mod Readless

@@ -1,0 +1,23 @@
+-- What a worker knows after it looked for work.
+use Rattle.std.specs.Prelude.{ℕ, ◌+◌, ◌<◌, List, [], ◌∷◌, ◌++◌, true}
+use Rattle.settle_core.specs.Meant.{Meant}
+use Rattle.board_rule.specs.Maps.{IsAmong}
+use Rattle.board_rule.specs.Standing.{next_read}
+use Rattle.board_rule.specs.Views.{fresh_hold, task_hold}
+use Rattle.board_rule.specs.Plays.{CanPark}
+use Rattle.board_rule.specs.declared.view.View.{View}
+use Rattle.board_rule.specs.declared.view.Entry.{Entry}
+use Rattle.board_rule.specs.declared.view.Entry.TheVariants.{Looks, ClaimsFresh, ClaimsParked}
+use Rattle.settle_board.specs.Changes.{Becomes, AllTurnAway}
+use Rattle.board_callers.specs.declared.scanning.Found.{Found}
+use Rattle.board_callers.specs.declared.scanning.Found.TheVariants.{Fresh, Parked, Nothing}
+
+-- Of n pieces those before the one that it got were tried and turned it away. Then come the steps by which it got that piece, which it
+-- holds now; nothing else changed. Where it got none, each piece was tried
+abbrev pub FoundSays : {X T O : Type 0} → Meant T O → ℕ → View X T → Found X T O → View X T → Type 0
+FoundSays {T} m n v (Fresh k) w = (k.0 < n) × (part : List (Entry T)) × AllTurnAway k.0 part
+    × Becomes (fresh_hold k.0 ∷ v.held) v.lent 0 (part ++ (Looks k.0 0 ∷ ClaimsFresh k.0 0 true ∷ [])) v w
+FoundSays {T} m n v (Parked k t) w = (k.0 < n) × CanPark m k.0 t × (part : List (Entry T)) × AllTurnAway k.0 part
+    × (found : ℕ) × IsAmong (next_read m k.0 (m.taken t)) w.seen × Becomes (task_hold k.0 t ∷ v.held) v.lent 0
+    (part ++ (Looks k.0 (8 + next_read m k.0 (m.taken t)) ∷ Looks (next_read m k.0 (m.taken t)) found ∷ ClaimsParked k.0 (8 + next_read m k.0 (m.taken t)) true ∷ [])) v w
+FoundSays {T} m n v Nothing w = (part : List (Entry T)) × AllTurnAway n part × Becomes v.held v.lent 0 part v w

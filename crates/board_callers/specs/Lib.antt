@@ -1,0 +1,5 @@
+pub mod Pieces
+pub mod ThreePieces
+pub mod Idle
+pub mod Ready
+pub mod FoundSays
