@@ -1,5 +1,5 @@
 -- A worker with one piece, or with none.
-use Rattle.std.proofs.Common.{◌≡◌, ℕ, ◌+◌, List, [], ◌∷◌, ◌++◌, ap, ◌∙◌, refl, Some, None, IsSome}
+use Rattle.std.proofs.Common.{◌≡◌, ℕ, ◌+◌, List, [], ◌∷◌, ◌++◌, ap, ◌∙◌, Some, None, IsSome}
 use Rattle.board_rule.specs.Views.{hold_on, without, after_settle, after_park}
 use Rattle.board_rule.specs.declared.view.Hold.{Hold}
 use Rattle.board_rule.specs.declared.view.View.{View}
@@ -40,9 +40,9 @@ module _ {X T : Type 0} (v w : View X T) (idle : IsIdle v) where
   still_idle p b = (b.holds ∙ idle.0, b.loan ∙ idle.1)
 
 -- the steps so far, in which no piece was had, and then one that is, or not
-module _ {X T : Type 0} (u v w : View X T) (tried here : List (Entry T)) (b : Becomes u.held u.lent 0 tried u v) where
-  pub goes_on : Becomes v.held v.lent 0 here v w → Becomes u.held u.lent 0 (tried ++ here) u w
-  goes_on d = let x = then u.held v.held u.lent v.lent 0 0 tried here u v w b d in record {
+module _ {X T : Type 0} (u v w : View X T) (tried part : List (Entry T)) (b : Becomes u.held u.lent 0 tried u v) where
+  pub goes_on : Becomes v.held v.lent 0 part v w → Becomes u.held u.lent 0 (tried ++ part) u w
+  goes_on d = let x = then u.held v.held u.lent v.lent 0 0 tried part u v w b d in record {
     about = x.about;
     share = x.share;
     stopped = x.stopped;
@@ -55,8 +55,8 @@ module _ {X T : Type 0} (u v w : View X T) (tried here : List (Entry T)) (b : Be
     trail = x.trail;
   }
 
-  pub gets : (h : Hold T) → Becomes (h ∷ v.held) v.lent 0 here v w → Becomes (h ∷ u.held) u.lent 0 (tried ++ here) u w
-  gets h d = let x = then u.held (h ∷ v.held) u.lent v.lent 0 0 tried here u v w b d in record {
+  pub gets : (h : Hold T) → Becomes (h ∷ v.held) v.lent 0 part v w → Becomes (h ∷ u.held) u.lent 0 (tried ++ part) u w
+  gets h d = let x = then u.held (h ∷ v.held) u.lent v.lent 0 0 tried part u v w b d in record {
     about = x.about;
     share = x.share;
     stopped = x.stopped;
@@ -70,6 +70,6 @@ module _ {X T : Type 0} (u v w : View X T) (tried here : List (Entry T)) (b : Be
   }
 
 -- a worker that tries one piece more
-pub tried_more : {X T : Type 0} (k : ℕ) (u v w : View X T) (t : (part : List (Entry T)) × AllTurnAway k part × Becomes u.held u.lent 0 part u v) (here : List (Entry T)) → Becomes v.held v.lent 0 here v w → TurnsAway k here
+pub tried_more : {X T : Type 0} (k : ℕ) (u v w : View X T) (t : (part : List (Entry T)) × AllTurnAway k part × Becomes u.held u.lent 0 part u v) (part : List (Entry T)) → Becomes v.held v.lent 0 part v w → TurnsAway k part
     → (part : List (Entry T)) × AllTurnAway (k + 1) part × Becomes u.held u.lent 0 part u w
-tried_more k u v w t here b turns = (t.0 ++ here, turn_away_more k t.0 here t.1 turns, goes_on u v w t.0 here t.2 b)
+tried_more k u v w t part b turns = (t.0 ++ part, turn_away_more k t.0 part t.1 turns, goes_on u v w t.0 part t.2 b)

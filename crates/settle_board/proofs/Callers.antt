@@ -169,7 +169,7 @@ module _ {X T O : Type 0} (m : Meant T O) (k : ℕ) (v w : View X T) where
   )
 
   -- a claim that is turned away
-  pub claim_not_now : (r : ℕ) → ClaimSays m k v (NotNow r) w → (here : List (Entry T)) × Becomes v.held v.lent 0 here v w × TurnsAway k here
+  pub claim_not_now : (r : ℕ) → ClaimSays m k v (NotNow r) w → (part : List (Entry T)) × Becomes v.held v.lent 0 part v w × TurnsAway k part
   claim_not_now r (z, inl h) = (Looks k r ∷ [], looks (Looks k r) k r v w h.0, inl (r, refl, h.1))
   claim_not_now r (z, inr (inl h)) = let u = after_look (Looks k 0) k 0 v in (
     Looks k 0 ∷ ClaimsFresh k r false ∷ [],
@@ -189,7 +189,7 @@ module _ {X T O : Type 0} (m : Meant T O) (k : ℕ) (v w : View X T) where
   claim_settled r d (z, inr (inl h)) = sees_settled (ClaimsFresh k r false) k r (after_look (Looks k 0) k 0 v) w h.0 d
   claim_settled r d (z, inr (inr h)) = sees_settled (ClaimsParked k r false) k r (after_look (Looks h.0 h.1) h.0 h.1 (after_look (Looks k (8 + h.0)) k (8 + h.0) v)) w h.2 d
 
-  pub claim_still : (on : PieceNo) (found : ℕ) → ClaimSays m k v (StillParked on found) w → (here : List (Entry T)) × Becomes v.held v.lent 0 here v w × TurnsAway k here
+  pub claim_still : (on : PieceNo) (found : ℕ) → ClaimSays m k v (StillParked on found) w → (part : List (Entry T)) × Becomes v.held v.lent 0 part v w × TurnsAway k part
   claim_still on found h = let t = after_look (Looks k (8 + on.0)) k (8 + on.0) v in (
     Looks k (8 + on.0) ∷ Looks on.0 found ∷ [],
     then v.held v.held v.lent v.lent 0 0 (Looks k (8 + on.0) ∷ []) (Looks on.0 found ∷ []) v t w (looks (Looks k (8 + on.0)) k (8 + on.0) v t refl) (looks (Looks on.0 found) on.0 found t w h.0),
@@ -304,15 +304,15 @@ module _ {X T O : Type 0} (m : Meant T O) (k : ℕ) where
   seen_stays n v w same grows all h e i l = ⊎_elim (λ (a : i < taken_at m h.claimed). inl a) (λ (a : IsAmong (next_read m k i) v.seen). inr (grows (next_read m k i) a)) (all h (sym same ∙ e) i l)
 
 -- parts of trails
-module _ {T : Type 0} (here : List (Entry T)) where
-  pub within_itself : IsWithin here here
-  within_itself = ([], [], sym (append-nil here))
+module _ {T : Type 0} (part : List (Entry T)) where
+  pub within_itself : IsWithin part part
+  within_itself = ([], [], sym (append-nil part))
 
-  pub within_left : (p q : List (Entry T)) → IsWithin here p → IsWithin here (p ++ q)
-  within_left p q h = (h.0, h.1 ++ q, ap (λ x. x ++ q) h.2 ∙ (append_assoc h.0 (here ++ h.1) q ∙ ap (λ x. h.0 ++ x) (append_assoc here h.1 q)))
+  pub within_left : (p q : List (Entry T)) → IsWithin part p → IsWithin part (p ++ q)
+  within_left p q h = (h.0, h.1 ++ q, ap (λ x. x ++ q) h.2 ∙ (append_assoc h.0 (part ++ h.1) q ∙ ap (λ x. h.0 ++ x) (append_assoc part h.1 q)))
 
-  pub within_right : (p q : List (Entry T)) → IsWithin here q → IsWithin here (p ++ q)
-  within_right p q h = (p ++ h.0, h.1, ap (λ x. p ++ x) h.2 ∙ sym (append_assoc p h.0 (here ++ h.1)))
+  pub within_right : (p q : List (Entry T)) → IsWithin part q → IsWithin part (p ++ q)
+  within_right p q h = (p ++ h.0, h.1, ap (λ x. p ++ x) h.2 ∙ sym (append_assoc p h.0 (part ++ h.1)))
 
 -- a piece that was tried
 module _ {T : Type 0} (k : ℕ) (p q : List (Entry T)) where
@@ -322,11 +322,11 @@ module _ {T : Type 0} (k : ℕ) (p q : List (Entry T)) where
   pub turned_right : IsTurnedAway k q → IsTurnedAway k (p ++ q)
   turned_right h = (h.0, h.1, within_right h.0 p q h.2)
 
-pub turned_here : {T : Type 0} (k : ℕ) (here : List (Entry T)) → TurnsAway k here → IsTurnedAway k here
-turned_here k here h = (here, h, within_itself here)
+pub turned_here : {T : Type 0} (k : ℕ) (part : List (Entry T)) → TurnsAway k part → IsTurnedAway k part
+turned_here k part h = (part, h, within_itself part)
 
 -- one piece more was tried
-pub turn_away_more : {T : Type 0} (n : ℕ) (p here : List (Entry T)) → AllTurnAway n p → TurnsAway n here → AllTurnAway (n + 1) (p ++ here)
-turn_away_more n p here all one k l = by_same k n
-    (λ (e : k ≡ n). subst (λ (z : ℕ). IsTurnedAway z (p ++ here)) (sym e) (turned_right n p here (turned_here n here one)))
-    (λ (d : k ≢ n). turned_left k p here (all k (omega arith)))
+pub turn_away_more : {T : Type 0} (n : ℕ) (p part : List (Entry T)) → AllTurnAway n p → TurnsAway n part → AllTurnAway (n + 1) (p ++ part)
+turn_away_more n p part all one k l = by_same k n
+    (λ (e : k ≡ n). subst (λ (z : ℕ). IsTurnedAway z (p ++ part)) (sym e) (turned_right n p part (turned_here n part one)))
+    (λ (d : k ≢ n). turned_left k p part (all k (omega arith)))

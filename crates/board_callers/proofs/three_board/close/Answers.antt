@@ -1,5 +1,4 @@
 use Rattle.std.proofs.lemmas.Result.{IfErr-weaker}
-use Rattle.settle_board.specs.Seating.{seats_in}
 use Rattle.settle_board.proofs.SeatLists.{last_saw, others_saw}
 use Rattle.board_callers.proofs.three_board.close.Goals as goal
 
