@@ -6,7 +6,7 @@ use Rattle.cxx_base.specs.declared.number.PieceNo.{PieceNo}
 use Rattle.settle_core.specs.Meant.{Meant}
 use Rattle.board_rule.specs.Maps.{is_same, IsAmong}
 use Rattle.board_rule.specs.Standing.{next_read, taken_at}
-use Rattle.board_rule.specs.Views.{hold_on, without, fresh_hold, task_hold, after_look, after_stop_look, after_stop, after_start, after_claim, after_settle, after_park, after_give_back, Knows, unless_settled, unsettled_after, last_unsettled}
+use Rattle.board_rule.specs.Views.{hold_on, without, fresh_hold, task_hold, after_look, after_stop_look, after_stop, after_settle, after_park, after_lend, after_give_back, Knows, unless_settled, unsettled_after, last_unsettled}
 use Rattle.board_rule.specs.declared.view.Hold.{Hold}
 use Rattle.board_rule.specs.declared.view.View.{View}
 use Rattle.board_rule.specs.declared.view.Entry.{Entry}
@@ -107,19 +107,25 @@ unless_open p r before a b = ap (λ t. cond (t || is_same r 4) before (Some p)) 
 pub last_more : {T : Type 0} (k : ℕ) (trail : List (Entry T)) (e : Entry T) → last_unsettled k (trail ++ e ∷ []) ≡ unsettled_after k (last_unsettled k trail) e
 last_more k trail e = fold_push (unsettled_after k) None trail e
 
--- A won claim of k begins anew; steps that end a hold or a loan look at nothing
+-- A won claim begins anew: nothing was seen unsettled since
+module _ {X T O : Type 0} (m : Meant T O) (k : ℕ) (v w : View X T) where
+  pub start_waits : ClaimSays m k v Start w → last_unsettled k w.trail ≡ None
+  start_waits h = let u = after_look (Looks k 0) k 0 v in ap (λ x. last_unsettled k x.trail) h ∙ (last_more k u.trail (ClaimsFresh k 0 true) ∙ ap (λ b. cond b None (last_unsettled k u.trail)) (same_yes k k refl))
+
+  pub resume_waits : (t : T) → ClaimSays m k v (Resume t) w → last_unsettled k w.trail ≡ None
+  resume_waits t h = let on = next_read m k (m.taken t) in let u = after_look (Looks on h.1) on h.1 (after_look (Looks k (8 + on)) k (8 + on) v) in
+      ap (λ x. last_unsettled k x.trail) h.3 ∙ (last_more k u.trail (ClaimsParked k (8 + on) true) ∙ ap (λ b. cond b None (last_unsettled k u.trail)) (same_yes k k refl))
+
+-- steps that end a hold, and those that begin or end a loan, see nothing unsettled
 module _ {X T : Type 0} (k p : ℕ) (v w : View X T) where
-  pub start_waits : w ≡ after_start k v → last_unsettled k w.trail ≡ None
-  start_waits is = ap (λ x. last_unsettled k x.trail) is ∙ (last_more k v.trail (ClaimsFresh k 0 true) ∙ ap (λ b. cond b None (last_unsettled k v.trail)) (same_yes k k refl))
-
-  pub resume_waits : (r : ℕ) (h : Hold T) → w ≡ after_claim (ClaimsParked k r true) h v → last_unsettled k w.trail ≡ None
-  resume_waits r h is = ap (λ x. last_unsettled k x.trail) is ∙ (last_more k v.trail (ClaimsParked k r true) ∙ ap (λ b. cond b None (last_unsettled k v.trail)) (same_yes k k refl))
-
   pub settle_waits : (steps : ℕ) → w ≡ after_settle k steps v → last_unsettled p w.trail ≡ last_unsettled p v.trail
   settle_waits steps is = ap (λ x. last_unsettled p x.trail) is ∙ last_more p v.trail (Settles k)
 
   pub park_waits : (word : ℕ) (t : T) (steps : ℕ) → w ≡ after_park k word t steps v → last_unsettled p w.trail ≡ last_unsettled p v.trail
   park_waits word t steps is = ap (λ x. last_unsettled p x.trail) is ∙ last_more p v.trail (Parks k word t)
+
+  pub loan_waits : w ≡ after_lend k v → last_unsettled p w.trail ≡ last_unsettled p v.trail
+  loan_waits is = ap (λ x. last_unsettled p x.trail) is ∙ last_more p v.trail (Lends k 3 true)
 
   pub give_waits : w ≡ after_give_back k v → last_unsettled p w.trail ≡ last_unsettled p v.trail
   give_waits is = ap (λ x. last_unsettled p x.trail) is ∙ last_more p v.trail (GivesBack k)
