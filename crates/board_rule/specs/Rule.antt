@@ -1,5 +1,5 @@
 -- The rule of the board: words, homes and views show one sound state.
-use Rattle.std.specs.Prelude.{◌≡◌, ℕ, ◌+◌, ◌<◌, ◌≤◌, List, [], length, slice_index, true, false, None}
+use Rattle.std.specs.Prelude.{◌≡◌, ℕ, ◌+◌, ◌<◌, ◌≤◌, List, length, slice_index, true}
 use mathlib.Core.Option.{some}
 use mathlib.Core.Option as maybe
 use lib.ListN.{get_elem?}
@@ -9,7 +9,7 @@ use Rattle.settle_core.specs.Bound.{sum_below}
 use Rattle.board_rule.specs.Maps.{is_it, IsAmong, HasSome, total}
 use Rattle.board_rule.specs.Stages.{Reached}
 use Rattle.board_rule.specs.Standing.{Standing, fresh, IsSettled, IsBegun, held_by, lent_to, in_hand_of, SeatBelow, word_of, home_of, steps_of, stage_of, IsSound}
-use Rattle.board_rule.specs.Views.{hold_on}
+use Rattle.board_rule.specs.Views.{hold_on, HasNothing}
 use Rattle.board_rule.specs.declared.home.Home.{Home}
 use Rattle.board_rule.specs.declared.view.Key.{Key}
 use Rattle.board_rule.specs.declared.view.View.{View}
@@ -30,7 +30,7 @@ pub record ViewFits {T X : Type 0} (at : ℕ → Standing T) (stop id : ℕ) (v 
   pub begun : (k : ℕ) → IsAmong k v.begun → IsBegun (at k)
   pub stopped : v.stopped ≡ true → stop ≡ 1
   pub saw_stop : v.saw_stop ≡ true → stop ≡ 1
-  pub idle : v.share ≡ 0 → (v.held ≡ []) × (v.lent ≡ None) × (v.hand ≡ None) × (v.seen ≡ []) × (v.spent ≡ 0) × (v.stopped ≡ false) × (v.trail ≡ []) × (v.saw_stop ≡ false) × (v.begun ≡ [])
+  pub idle : v.share ≡ 0 → HasNothing v
 
 -- what it takes to settle every piece
 abbrev pub work : {T O : Type 0} → Meant T O → ℕ

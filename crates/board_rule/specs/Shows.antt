@@ -13,11 +13,16 @@ use Rattle.settle_core.specs.Steps.{IsReached}
 use Rattle.settle_core.specs.Bound.{sum_below}
 use Rattle.board_rule.specs.Maps.{IsAmong, HasSome, total}
 use Rattle.board_rule.specs.Standing.{steps_at, taken_at, advanced_at}
-use Rattle.board_rule.specs.Views.{hold_on}
+use Rattle.board_rule.specs.Views.{hold_on, HasNothing}
 use Rattle.board_rule.specs.declared.home.Home.{Home}
 use Rattle.board_rule.specs.declared.home.Home.TheVariants.{Empty, Task, Outcome}
 use Rattle.board_rule.specs.declared.view.Hold.{Hold}
 use Rattle.board_rule.specs.declared.view.View.{View}
+
+-- The shares of all views are so many seats, and a view without a share has nothing in it
+pub record SharesAddUp {X T O : Type 0} (seats : ℕ) (s : State (Home T O) (View X T)) : Type 0 where
+  pub all : total (λ (v : View X T). v.share) s.views ≡ seats
+  pub idle : (id : ℕ) (v : View X T) → get_elem? s.views id ≡ some v → v.share ≡ 0 → HasNothing v
 
 module _ {X T O : Type 0} (m : Meant T O) (s : State (Home T O) (View X T)) where
   -- the slot of the piece k is at home, empty, or in the hand of the seat with this view

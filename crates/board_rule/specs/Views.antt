@@ -83,7 +83,12 @@ module _ {X T : Type 0} where
   abbrev pub gone : View X T
   gone = record { about = None; held = []; lent = None; hand = None; begun = []; seen = []; spent = 0; stopped = false; saw_stop = false; trail = []; share = 0 }
 
--- The seat can tell that the piece k is settled: it saw so, or some task that it claimed had already taken the outcome of k
+-- nothing was done with the view, and it has nothing
+abbrev pub HasNothing : {X T : Type 0} → View X T → Type 0
+HasNothing v = (v.held ≡ []) × (v.lent ≡ None) × (v.hand ≡ None) × (v.seen ≡ []) × (v.spent ≡ 0) × (v.stopped ≡ false) × (v.trail ≡ []) × (v.saw_stop ≡ false) × (v.begun ≡ [])
+
+-- The seat can tell that the piece k is settled: it saw so, or the task of a piece that it holds had taken the outcome of k when the
+-- piece was claimed. Of tasks it goes by those alone of pieces that it still holds
 abbrev pub Knows : {T O X : Type 0} → Meant T O → ℕ → View X T → Type 0
 Knows {T} m k v = IsAmong k v.seen ⊎ ((p i : ℕ) × (h : Hold T) × (hold_on p v.held ≡ Some h) × (i < taken_at m h.claimed) × (next_read m p i ≡ k))
 

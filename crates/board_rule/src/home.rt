@@ -1,4 +1,4 @@
-//! What lies in a slot.
+//! The things that a slot can hold.
 
 /// What the slot of a piece has at home.
 #[derive(Drop)]

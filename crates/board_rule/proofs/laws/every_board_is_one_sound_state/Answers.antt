@@ -10,4 +10,5 @@ returns g c = record {
       ∙ sym (shows_it (λ x. g.M.Meaning.meant x) key s r other (subst (λ x. Shows (g.M.Meaning.meant x) s other) (sym e) b));
   told = λ key s e r. subst (λ x. ViewsTell (g.M.Meaning.meant x) s) e (views_tell (λ x. g.M.Meaning.meant x) key s r);
   spent = λ key s e r. subst (λ x. SumsUp (g.M.Meaning.meant x) s) e (sums_up (λ x. g.M.Meaning.meant x) key s r);
+  shares = λ key s r. record { all = r.shares; idle = λ id v e. (r.views id v e).idle };
 }
