@@ -103,6 +103,14 @@ sees_stop r v w e is = ap (λ x. x.saw_stop) is ∙ ap (λ b. b || v.saw_stop) (
 unless_open : (p r : ℕ) (before : Option ℕ) → r ≢ 3 → r ≢ 4 → unless_settled p r before ≡ Some p
 unless_open p r before a b = ap (λ t. cond (t || is_same r 4) before (Some p)) (same_no r 3 a) ∙ ap (λ t. cond t before (Some p)) (same_no r 4 b)
 
+unless_closed : (p r : ℕ) (before : Option ℕ) → (r ≡ 3) ⊎ (r ≡ 4) → unless_settled p r before ≡ before
+unless_closed p r before (inl e) = ap (λ t. cond (t || is_same r 4) before (Some p)) (same_yes r 3 e)
+unless_closed p r before (inr e) = go (is_same r 3)
+  where
+    go : (b : Bool) → cond (b || is_same r 4) before (Some p) ≡ before
+    go true = refl
+    go false = ap (λ t. cond t before (Some p)) (same_yes r 4 e)
+
 -- the last piece seen unsettled, after one step more
 pub last_more : {T : Type 0} (k : ℕ) (trail : List (Entry T)) (e : Entry T) → last_unsettled k (trail ++ e ∷ []) ≡ unsettled_after k (last_unsettled k trail) e
 last_more k trail e = fold_push (unsettled_after k) None trail e
@@ -116,7 +124,8 @@ module _ {X T O : Type 0} (m : Meant T O) (k : ℕ) (v w : View X T) where
   resume_waits t h = let on = next_read m k (m.taken t) in let u = after_look (Looks on h.1) on h.1 (after_look (Looks k (8 + on)) k (8 + on) v) in
       ap (λ x. last_unsettled k x.trail) h.3 ∙ (last_more k u.trail (ClaimsParked k (8 + on) true) ∙ ap (λ b. cond b None (last_unsettled k u.trail)) (same_yes k k refl))
 
--- steps that end a hold, and those that begin or end a loan, see nothing unsettled
+-- steps that end a hold, those that begin or end a loan, those on the stop word, and a look that finds a piece settled see nothing
+-- unsettled
 module _ {X T : Type 0} (k p : ℕ) (v w : View X T) where
   pub settle_waits : (steps : ℕ) → w ≡ after_settle k steps v → last_unsettled p w.trail ≡ last_unsettled p v.trail
   settle_waits steps is = ap (λ x. last_unsettled p x.trail) is ∙ last_more p v.trail (Settles k)
@@ -130,12 +139,43 @@ module _ {X T : Type 0} (k p : ℕ) (v w : View X T) where
   pub give_waits : w ≡ after_give_back k v → last_unsettled p w.trail ≡ last_unsettled p v.trail
   give_waits is = ap (λ x. last_unsettled p x.trail) is ∙ last_more p v.trail (GivesBack k)
 
+  pub stop_waits : w ≡ after_stop v → last_unsettled p w.trail ≡ last_unsettled p v.trail
+  stop_waits is = ap (λ x. last_unsettled p x.trail) is ∙ last_more p v.trail Stops
+
+  pub stop_look_waits : (r : ℕ) → w ≡ after_stop_look r v → last_unsettled p w.trail ≡ last_unsettled p v.trail
+  stop_look_waits r is = ap (λ x. last_unsettled p x.trail) is ∙ last_more p v.trail (LooksAtStop r)
+
+  pub settled_look_waits : (r : ℕ) → (r ≡ 3) ⊎ (r ≡ 4) → w ≡ after_look (Looks k r) k r v → last_unsettled p w.trail ≡ last_unsettled p v.trail
+  settled_look_waits r d is = ap (λ x. last_unsettled p x.trail) is ∙ (last_more p v.trail (Looks k r) ∙ unless_closed k r (last_unsettled p v.trail) d)
+
 module _ {X T : Type 0} (k p r : ℕ) (v w : View X T) (a : r ≢ 3) (b : r ≢ 4) where
   pub look_waits : w ≡ after_look (Looks p r) p r v → last_unsettled k w.trail ≡ Some p
   look_waits is = ap (λ x. last_unsettled k x.trail) is ∙ (last_more k v.trail (Looks p r) ∙ unless_open p r (last_unsettled k v.trail) a b)
 
   pub lend_waits : w ≡ after_look (Lends p r false) p r v → last_unsettled k w.trail ≡ Some p
   lend_waits is = ap (λ x. last_unsettled k x.trail) is ∙ (last_more k v.trail (Lends p r false) ∙ unless_open p r (last_unsettled k v.trail) a b)
+
+-- A claim that is turned away saw last unsettled what its piece is parked on, or the piece itself. One that found the piece settled
+-- saw the piece unsettled before that, or nothing
+module _ {X T O : Type 0} (m : Meant T O) (k p : ℕ) (v w : View X T) where
+  pub still_waits : (on : PieceNo) (found : ℕ) → ClaimSays m k v (StillParked on found) w → last_unsettled p w.trail ≡ Some on.0
+  still_waits on found h = look_waits p on.0 found (after_look (Looks k (8 + on.0)) k (8 + on.0) v) w h.2 h.3 h.0
+
+  pub not_now_waits : (r : ℕ) → r ≢ 3 → r ≢ 4 → ClaimSays m k v (NotNow r) w → last_unsettled p w.trail ≡ Some k
+  not_now_waits r a b (z, inl h) = look_waits p k r v w a b h.0
+  not_now_waits r a b (z, inr (inl h)) = let u = after_look (Looks k 0) k 0 v in
+      ap (λ x. last_unsettled p x.trail) h.0 ∙ (last_more p u.trail (ClaimsFresh k r false) ∙ unless_open k r (last_unsettled p u.trail) a b)
+  not_now_waits r a b (z, inr (inr h)) = let u = after_look (Looks h.0 h.1) h.0 h.1 (after_look (Looks k (8 + h.0)) k (8 + h.0) v) in
+      ap (λ x. last_unsettled p x.trail) h.2 ∙ (last_more p u.trail (ClaimsParked k r false) ∙ unless_open k r (last_unsettled p u.trail) a b)
+
+  pub not_now_settled : (r : ℕ) → (r ≡ 3) ⊎ (r ≡ 4) → ClaimSays m k v (NotNow r) w → (last_unsettled p w.trail ≡ Some k) ⊎ (last_unsettled p w.trail ≡ last_unsettled p v.trail)
+  not_now_settled r d (z, inl h) = inr (settled_look_waits k p v w r d h.0)
+  not_now_settled r d (z, inr (inl h)) = let u = after_look (Looks k 0) k 0 v in
+      inl (ap (λ x. last_unsettled p x.trail) h.0 ∙ (last_more p u.trail (ClaimsFresh k r false) ∙ (unless_closed k r (last_unsettled p u.trail) d
+      ∙ look_waits p k 0 v u (λ e. omega arith) (λ e. omega arith) refl)))
+  not_now_settled r d (z, inr (inr h)) = let t = after_look (Looks k (8 + h.0)) k (8 + h.0) v in let u = after_look (Looks h.0 h.1) h.0 h.1 t in
+      inl (ap (λ x. last_unsettled p x.trail) h.2 ∙ (last_more p u.trail (ClaimsParked k r false) ∙ (unless_closed k r (last_unsettled p u.trail) d
+      ∙ (settled_look_waits h.0 p t u h.1 h.3 refl ∙ look_waits p k (8 + h.0) v t (λ e. omega arith) (λ e. omega arith) refl))))
 
 module _ {X T O : Type 0} (m : Meant T O) (k : ℕ) (v w : View X T) where
   -- a claim that is won
