@@ -13,7 +13,8 @@ use Rattle.board_callers.specs.declared.scanning.Found.{Found}
 use Rattle.board_callers.specs.declared.scanning.Found.TheVariants.{Fresh, Parked, Nothing}
 
 -- Of n pieces those before the one that it got were tried and turned it away. Then come the steps by which it got that piece, which it
--- holds now; nothing else changed. Where it got none, each piece was tried
+-- holds now. Where it got none, each piece was tried. What it holds (but for the piece got), its loan, the steps spent and its stop
+-- mark are as before
 abbrev pub FoundSays : {X T O : Type 0} → Meant T O → ℕ → View X T → Found X T O → View X T → Type 0
 FoundSays {T} m n v (Fresh k) w = (k.0 < n) × (part : List (Entry T)) × AllTurnAway k.0 part
     × Becomes (fresh_hold k.0 ∷ v.held) v.lent 0 (part ++ (Looks k.0 0 ∷ ClaimsFresh k.0 0 true ∷ [])) v w

@@ -21,6 +21,8 @@ use std::test::Fail;
 
 const ZERO: PieceNo = PieceNo(0);
 
+const ONE: PieceNo = PieceNo(1);
+
 const TWO: PieceNo = PieceNo(2);
 
 // The seat claims a fresh piece.
@@ -175,6 +177,25 @@ fn a_piece_goes_from_seat_to_seat(rt: HostRuntime) -> Result<(), Fail> {
         Some(Unsettled {
             piece: PieceNo(1),
             word: 0
+        })
+    );
+    Ok(())
+}
+
+#[test]
+fn a_parked_piece_is_left(rt: HostRuntime) -> Result<(), Fail> {
+    let (board, seats, mut a, mut b) = open(rt.alloc())?;
+    starts(&rt, &board, &mut a, ONE);
+    parks(&rt, &board, &mut a, ONE, 7);
+    starts(&rt, &board, &mut b, ZERO);
+    settles_first(&board, &mut b);
+    let left = close(board, seats, a, b).err();
+    // piece 1 has 8 and the piece that it waits for; piece 2, which is fresh, comes after it
+    assert_eq!(rt;
+        left,
+        Some(Unsettled {
+            piece: PieceNo(1),
+            word: 8
         })
     );
     Ok(())
