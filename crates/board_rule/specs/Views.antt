@@ -83,7 +83,7 @@ module _ {X T : Type 0} where
   abbrev pub gone : View X T
   gone = record { about = None; held = []; lent = None; hand = None; begun = []; seen = []; spent = 0; stopped = false; saw_stop = false; trail = []; share = 0 }
 
--- nothing was done with the view, and it has nothing
+-- nothing is in the view but its board and its share
 abbrev pub HasNothing : {X T : Type 0} → View X T → Type 0
 HasNothing v = (v.held ≡ []) × (v.lent ≡ None) × (v.hand ≡ None) × (v.seen ≡ []) × (v.spent ≡ 0) × (v.stopped ≡ false) × (v.trail ≡ []) × (v.saw_stop ≡ false) × (v.begun ≡ [])
 
