@@ -11,6 +11,6 @@ mod types;
 mod words;
 
 pub use fundamental::fund;
-pub use names::{name, part, vector_head};
+pub use names::{name, part, parts, vector_head};
 pub use reader::TypeReader;
 pub use types::{basic_vector, pointers};

@@ -45,8 +45,9 @@ pub fn part(tokens: &Tokens, at: u32) -> Result<(Identifier, u32), Fault>
     identifier(tokens, at)
 }
 
+/// Further parts of a name, each behind `::`, added to those found.
 #[tactic(auto, unfolding(cxx_grammar::specs::Names::parts), using(cxx_reading::proofs::Turns::loops))]
-fn parts(
+pub fn parts(
     tokens: &Tokens,
     mut found: Items<Identifier>,
     mut at: u32,
