@@ -93,10 +93,14 @@ impl<
         ensures { Gives (spec.prefixed_form self.now.primaries.lists.types.tokens.now (read self.now.primaries.lists.types.tokens.now self.now.primaries.lists.types.level) start) result }
     {
         let (op, at) = unary_operator(self.primaries.lists.types.tokens, start)?;
-        let (x, end) = self.deep_unary(at)?;
-        let x = Boxed::new(self.primaries.lists.types.alloc, x)?;
+        let (operand, end) = self.deep_unary(at)?;
+        let operand = Boxed::new(self.primaries.lists.types.alloc, operand)?;
         Ok((
-            Expr::Unary(span(self.primaries.lists.types.tokens, start, end), op, x),
+            Expr::Unary(
+                span(self.primaries.lists.types.tokens, start, end),
+                op,
+                operand,
+            ),
             end,
         ))
     }
