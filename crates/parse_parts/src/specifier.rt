@@ -1,5 +1,6 @@
 //! Specifiers ([dcl.spec], [dcl.fct.spec], [class.mem], [class.access]).
 
+ghost use Rattle.std.specs.Prelude.{◌≡◌, IfErr};
 ghost use Rattle.cxx_grammar.specs.Declarations as spec;
 ghost use Rattle.cxx_reading.specs.Reading.{Gives};
 
@@ -11,7 +12,8 @@ use cxx_tree::{Access, ClassKey};
 
 #[tactic(auto, unfolding(cxx_grammar::specs::Declarations::specifier))]
 fn specifier(tokens: &Tokens, found: DeclWords, start: u32) -> Result<(DeclWords, u32), Fault>
-    ensures { Gives (spec.specifier tokens.now found start) result }
+    ensures gives { Gives (spec.specifier tokens.now found start) result }
+    ensures sure { IfErr result (λ fault. fault ≡ Fault.Syntax) }
 {
     let (word, end) = any_word(tokens, start)?;
     match with_spec(found, word) {
@@ -27,7 +29,8 @@ pub fn specifiers(
     mut found: DeclWords,
     mut at: u32,
 ) -> Result<(DeclWords, u32), Fault>
-    ensures { Gives (spec.specifiers tokens.now found at) result }
+    ensures gives { Gives (spec.specifiers tokens.now found at) result }
+    ensures sure { IfErr result (λ fault. fault ≡ Fault.Syntax) }
 {
     for _turn in 0..left(tokens, at) {
         match specifier(tokens, found, at) {
@@ -49,7 +52,8 @@ fn constructor_word(
     found: DeclWords,
     start: u32,
 ) -> Result<(DeclWords, u32), Fault>
-    ensures { Gives (spec.constructor_word tokens.now found start) result }
+    ensures gives { Gives (spec.constructor_word tokens.now found start) result }
+    ensures sure { IfErr result (λ fault. fault ≡ Fault.Syntax) }
 {
     let (word, end) = any_word(tokens, start)?;
     match with_constructor_word(found, word) {
@@ -65,7 +69,8 @@ pub fn constructor_words(
     mut found: DeclWords,
     mut at: u32,
 ) -> Result<(DeclWords, u32), Fault>
-    ensures { Gives (spec.constructor_words tokens.now found at) result }
+    ensures gives { Gives (spec.constructor_words tokens.now found at) result }
+    ensures sure { IfErr result (λ fault. fault ≡ Fault.Syntax) }
 {
     for _turn in 0..left(tokens, at) {
         match constructor_word(tokens, found, at) {
@@ -84,7 +89,8 @@ pub fn constructor_words(
 /// `struct` or `class`.
 #[tactic(auto, unfolding(cxx_grammar::specs::Declarations::key))]
 pub fn key(tokens: &Tokens, start: u32) -> Result<(ClassKey, u32), Fault>
-    ensures { Gives (spec.key tokens.now start) result }
+    ensures gives { Gives (spec.key tokens.now start) result }
+    ensures sure { IfErr result (λ fault. fault ≡ Fault.Syntax) }
 {
     let (word, end) = any_word(tokens, start)?;
     match key_of_word(word) {
@@ -96,7 +102,8 @@ pub fn key(tokens: &Tokens, start: u32) -> Result<(ClassKey, u32), Fault>
 /// `public`, `protected` or `private`.
 #[tactic(auto, unfolding(cxx_grammar::specs::Declarations::access))]
 pub fn access(tokens: &Tokens, start: u32) -> Result<(Access, u32), Fault>
-    ensures { Gives (spec.access tokens.now start) result }
+    ensures gives { Gives (spec.access tokens.now start) result }
+    ensures sure { IfErr result (λ fault. fault ≡ Fault.Syntax) }
 {
     let (word, end) = any_word(tokens, start)?;
     match access_of_word(word) {
