@@ -1,0 +1,127 @@
+//! Unary expressions that begin with a word.
+
+pub(crate) const ROWS: &str = r#"
+== expression at 0, sizes
+sizeof(int) => 4 (sizeof type int)
+sizeof(const a) => 5 (sizeof type const a)
+sizeof(int*) => 5 (sizeof type int*)
+sizeof(std::vector<a>) => 9 (sizeof type vector<a>)
+sizeof(1) => 4 (sizeof expr 1)
+sizeof(-a) => 5 (sizeof expr (- a))
+sizeof(^^a) => 5 (sizeof expr (^^ a))
+sizeof((a)) => 6 (sizeof expr (paren a))
+sizeof([:x:]) => 6 (sizeof expr [:x:])
+sizeof(sizeof(a)) => 7 (sizeof expr (sizeof type a))
+== expression at 0, where both derive, the type
+sizeof (a) => 4 (sizeof type a)
+sizeof(a::b) => 6 (sizeof type a::b)
+sizeof(::a) => 5 (sizeof type ::a)
+sizeof(a::extract) => 6 (sizeof type a::extract)
+== expression at 0, else the one that ends last
+sizeof(a*) => 5 (sizeof type a*)
+sizeof(a&) => 5 (sizeof type a&)
+sizeof(a*&) => 6 (sizeof type a*&)
+sizeof(a*const) => 6 (sizeof type a*const)
+sizeof(a*b) => 6 (sizeof expr (chain a * b))
+sizeof(a&b) => 6 (sizeof expr (chain a & b))
+sizeof(a&&b) => 6 (sizeof expr (chain a && b))
+sizeof(a&*b) => 7 (sizeof expr (chain a & (* b)))
+sizeof(a ? b : c) => 8 (sizeof expr (? a b c))
+sizeof(a()) => 6 (sizeof expr (post a ()))
+sizeof(a[1]) => 7 (sizeof expr (post a [1]))
+sizeof(a.b) => 6 (sizeof expr (post a .b))
+sizeof(a{}) => 6 (sizeof expr (make a {}))
+sizeof(int()) => 6 (sizeof expr (to int ()))
+sizeof(int{}) => 6 (sizeof expr (make int {}))
+sizeof(int(1) * 2) => 9 (sizeof expr (chain (to int (1)) * 2))
+sizeof(std::vector<a>{}) => 11 (sizeof expr (make vector<a> {}))
+sizeof(a::extract<T>(e)) => 12 (sizeof expr (extract a::extract T e))
+sizeof(typename[:x:]) => 7 (sizeof type typename [:x:])
+sizeof(typename[:x:]*) => 8 (sizeof type typename [:x:]*)
+sizeof(typename[:x:] const&) => 9 (sizeof type const typename [:x:]&)
+sizeof(const typename[:x:]) => 8 (sizeof type const typename [:x:])
+sizeof(typename[:x:]{}) => 9 (sizeof expr (make typename [:x:] {}))
+sizeof(typename[:x:]()) => 9 (sizeof expr (to typename [:x:] ()))
+sizeof(typename[:x:]{}.a) => 11 (sizeof expr (post (make typename [:x:] {}) .a))
+sizeof(typename[:x:](1)+2) => 12 (sizeof expr (chain (to typename [:x:] (1)) + 2))
+sizeof(typename[:x:]{} ? a : b) => 13 (sizeof expr (? (make typename [:x:] {}) a b))
+sizeof(a).b => 4 (sizeof type a)
+sizeof(a)(b) => 4 (sizeof type a)
+sizeof(int)*2 => 6 (chain (sizeof type int) * 2)
+sizeof(typename[:x:] * y) => S1
+sizeof(typename[:x:]{} {}) => S1
+sizeof(typename[:x:](1) => S1
+sizeof(typename x) => S1
+sizeof(a*b*) => S1
+sizeof(a::extract < b) => S1
+sizeof(a b) => S1
+sizeof(a, b) => S1
+sizeof({a}) => S1
+sizeof() => S1
+sizeof(a => S1
+sizeof a => S1
+sizeof => S1
+== expression at 0, delete
+delete p => 2 (delete p)
+delete[] p => 4 (delete[] p)
+delete [ ] p => 4 (delete[] p)
+delete (p) => 4 (delete (paren p))
+delete -p => 3 (delete (- p))
+delete[] *p => 5 (delete[] (* p))
+delete delete p => 3 (delete (delete p))
+delete new a => 3 (delete (new a))
+delete p.q => 4 (delete (post p .q))
+delete p + 1 => 4 (chain (delete p) + 1)
+delete[:x:] => 4 (delete [:x:])
+delete[][:x:] => 6 (delete[] [:x:])
+delete [p] => S1
+delete[p] q => S1
+delete[ => S1
+delete[] => S1
+delete => S1
+delete int => S1
+delete {} => S1
+== expression at 0, new
+new a => 2 (new a)
+new int => 2 (new int)
+new const a* => 4 (new const a*)
+new a::b::c(1) => 9 (new a::b::c (1))
+new a() => 4 (new a ())
+new a(b, {c}) => 9 (new a (b, {c}))
+new a{b} => 5 (new a {b})
+new a{} => 4 (new a {})
+new a{.x = 1} => 8 (new a {.x = 1})
+new a[n] => 5 (new a [n])
+new unsigned long[2] => 6 (new ulong [2])
+new T*[3]{1, 2} => 11 (new T* [3] {1, 2})
+new T*[3](1, 2) => 11 (new T* [3] (1, 2))
+new std::vector<a>{b} => 10 (new vector<a> {b})
+new typename[:x:](1) => 8 (new typename [:x:] (1))
+new typename[:x:]{} => 7 (new typename [:x:] {})
+new typename[:x:][2] => 8 (new typename [:x:] [2])
+new a + b => 4 (chain (new a) + b)
+new a[n] + 1 => 7 (chain (new a [n]) + 1)
+new a::extract<T>(e) => 10 (chain (new a::extract) < T > (paren e))
+== expression at 0, the longest type, and each optional part where it reads
+new a * b => 3 (new a*)
+new a & b => 3 (new a&)
+new a[n](x)(y) => 8 (new a [n] (x))
+new a{}{} => 4 (new a {})
+new a(){} => 4 (new a ())
+new a().b => 4 (new a ())
+new a[n][m] => 5 (new a [n])
+new a{}[n] => 4 (new a {})
+new a[] => 2 (new a)
+new a[n => 2 (new a)
+new a[{}] => 2 (new a)
+new a(b,) => 2 (new a)
+new a( => 2 (new a)
+new a{.x = 1, 2} => 2 (new a)
+new a.b => 2 (new a)
+new (a) => S1
+new new a => S1
+new 1 => S1
+new {} => S1
+new std::vector<int> => S1
+new => S1
+"#;
