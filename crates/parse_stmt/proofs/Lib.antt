@@ -1,0 +1,6 @@
+mod Assignments
+mod Begin
+mod ForForms
+mod Levels
+mod Simple
+mod StatementArms

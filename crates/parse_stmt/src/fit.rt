@@ -1,0 +1,43 @@
+//! Which bounds and initializers stand together ([dcl.array], [dcl.init.aggr]).
+
+ghost use Rattle.std.specs.Prelude.{◌≡◌};
+ghost use Rattle.cxx_grammar.specs.Statements as spec;
+
+use cxx_tree::{BoundTree, InitTree};
+use sqlite_items::Items;
+
+fn have_lengths(bounds: &[BoundTree]) -> bool
+    ensures { result ≡ spec.have_lengths bounds.now }
+{
+    let mut rest = bounds;
+    while let Some((first, more)) = rest.split_first() {
+        if first.length.is_none() {
+            return false;
+        }
+        rest = more;
+    }
+    true
+}
+
+fn is_braced_init(init: &Option<InitTree>) -> bool
+    ensures { result ≡ spec.is_braced_init init.now }
+{
+    match init {
+        Some(InitTree::EqualBraced(_)) => true,
+        Some(InitTree::Braced(_)) => true,
+        Some(InitTree::Equal(_)) => false,
+        None => false,
+    }
+}
+
+/// Whether a bound without a length stands only first, and before a braced initializer.
+pub fn fit_bounds(bounds: &Items<BoundTree>, init: &Option<InitTree>) -> bool
+    ensures { result ≡ spec.fit_bounds bounds.now init.now }
+{
+    match bounds.as_slice().split_first() {
+        Some((first, more)) => {
+            have_lengths(more) && (first.length.is_some() || is_braced_init(init))
+        }
+        None => true,
+    }
+}
