@@ -1,0 +1,11 @@
+mod Tokens
+mod Words
+mod Declarators
+mod Joins
+mod Nothing
+mod Blocks
+mod ClassForms
+mod Arms
+mod Levels
+mod ItemForms
+mod UnitTurns

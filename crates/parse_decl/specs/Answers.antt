@@ -1,0 +1,18 @@
+-- What is answered of a text.
+use Rattle.std.specs.Prelude.{◌≡◌, slice_get, Result, Ok, Err}
+use Rattle.cxx_base.specs.declared.place.Place.{Place}
+use Rattle.cxx_tree.specs.declared.decl.Unit.{Unit as UnitTree}
+use Rattle.cxx_tokens.specs.declared.token.Tokens.{Tokens}
+use Rattle.cxx_reading.specs.Reading.{Nothing, TooDeep, place_of}
+use Rattle.cxx_grammar.specs.Units.{Derived, Derives, Refused}
+use Rattle.parse_decl.specs.declared.syntax_fault.SyntaxFault.{SyntaxFault}
+use Rattle.parse_decl.specs.declared.syntax_fault.SyntaxFault.TheVariants.{S1, S2, Memory}
+
+-- The unit where one is derived; else S1 or S2 at the first character of the token that decides, or at the end of the text.
+-- Nothing is said where memory runs out.
+abbrev pub Says : Tokens → Derived → Result UnitTree SyntaxFault → Type 0
+Says tokens (Derives items) (Ok found) = found.items ≡ items
+Says tokens (Refused Nothing i) (Err (S1 place)) = place ≡ place_of tokens.end (slice_get tokens.list i)
+Says tokens (Refused TooDeep i) (Err (S2 place)) = place ≡ place_of tokens.end (slice_get tokens.list i)
+Says tokens d (Err Memory) = Unit {0}
+Says tokens d r = ⊥

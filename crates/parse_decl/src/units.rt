@@ -1,0 +1,219 @@
+//! Whole source texts ([basic.link]).
+
+ghost use Rattle.std.specs.Prelude.{◌≡◌, ◌+◌, ◌<◌, ◌^◌};
+ghost use Rattle.cxx_grammar.specs.Declarations as declarations;
+ghost use Rattle.cxx_grammar.specs.Units as spec;
+ghost use Rattle.cxx_reading.specs.Reading.{Gives};
+ghost use Rattle.parse_decl.specs.Answers.{Says};
+ghost use Rattle.parse_decl.specs.Joined as joined;
+
+use crate::classes::{class, sees_ahead};
+use crate::declaration::{
+    alias_decl, assert_decl, block_decl, declared, enum_decl, namespace_decl,
+};
+use crate::syntax_fault::SyntaxFault;
+use cxx_reading::{Fault, Seen, expect, expect_word, identifier, kind_at, span};
+use cxx_tokens::Tokens;
+use cxx_tokens::keyword::{CLASS, CONSTEVAL, ENUM, NAMESPACE, STATIC_ASSERT, STRUCT, USING};
+use cxx_tokens::mark::{EQUAL, LEFT_BRACE, RIGHT_BRACE, SEMICOLON};
+use cxx_tree::{Decl, Item, Unit};
+use parse_type::parts;
+use sqlite_items::Items;
+use std::alloc::Global;
+
+#[tactic(auto, unfolding(cxx_grammar::specs::Declarations::class_decl))]
+fn class_decl(alloc: Global, tokens: &Tokens, start: u32) -> Result<(Decl, u32), Fault>
+    ensures { Gives (declarations.class_decl tokens.now 0 (declarations.read_members tokens.now 1) start) result }
+{
+    let (x, end) = class(alloc, tokens, start, 0)?;
+    Ok((Decl::Class(x), end))
+}
+
+#[tactic(auto, unfolding(crate::specs::Joined::consteval_decl))]
+fn consteval_decl(alloc: Global, tokens: &Tokens, start: u32) -> Result<(Decl, u32), Fault>
+    ensures { Gives (joined.consteval_decl tokens.now 0 start) result }
+{
+    if sees_ahead(tokens, LEFT_BRACE, start, 1) {
+        block_decl(alloc, tokens, start, 0)
+    } else {
+        declared(alloc, tokens, start, 0)
+    }
+}
+
+// A declaration of a unit, which stands at level 0.
+#[tactic(auto, using(crate::proofs::Arms::decl_arms), unfolding(cxx_grammar::specs::Declarations::declaration))]
+fn declaration(alloc: Global, tokens: &Tokens, start: u32) -> Result<(Decl, u32), Fault>
+    ensures { Gives (declarations.declaration tokens.now start) result }
+{
+    match kind_at(tokens, start) {
+        Some(Seen::Word(word)) => {
+            if word == NAMESPACE {
+                namespace_decl(alloc, tokens, start, 0)
+            } else if word == USING {
+                alias_decl(alloc, tokens, start, 0)
+            } else if word == STRUCT {
+                class_decl(alloc, tokens, start)
+            } else if word == CLASS {
+                class_decl(alloc, tokens, start)
+            } else if word == ENUM {
+                enum_decl(alloc, tokens, start, 0)
+            } else if word == STATIC_ASSERT {
+                assert_decl(alloc, tokens, start, 0)
+            } else if word == CONSTEVAL {
+                consteval_decl(alloc, tokens, start)
+            } else {
+                declared(alloc, tokens, start, 0)
+            }
+        }
+        Some(Seen::Punctuator(_)) => declared(alloc, tokens, start, 0),
+        Some(Seen::Identifier) => declared(alloc, tokens, start, 0),
+        Some(Seen::Integer) => declared(alloc, tokens, start, 0),
+        Some(Seen::Character) => declared(alloc, tokens, start, 0),
+        Some(Seen::Text) => declared(alloc, tokens, start, 0),
+        None => declared(alloc, tokens, start, 0),
+    }
+}
+
+#[tactic(auto, unfolding(cxx_grammar::specs::Units::namespace_head))]
+fn namespace_head(alloc: Global, tokens: &Tokens, start: u32) -> Result<(Item, u32), Fault>
+    ensures { Gives (spec.namespace_head tokens.now start) result }
+{
+    let at = expect_word(tokens, NAMESPACE, start)?;
+    let (first, at) = identifier(tokens, at)?;
+    let mut found = Items::new(alloc);
+    found.push(first)?;
+    let (names, at) = parts(tokens, found, at)?;
+    let end = expect(tokens, LEFT_BRACE, at)?;
+    Ok((Item::NamespaceHead(span(tokens, start, end), names), end))
+}
+
+#[tactic(auto, unfolding(cxx_grammar::specs::Units::close_item))]
+fn close_item(tokens: &Tokens, start: u32) -> Result<(Item, u32), Fault>
+    ensures { Gives (spec.close_item tokens.now start) result }
+{
+    let end = expect(tokens, RIGHT_BRACE, start)?;
+    Ok((Item::Close(span(tokens, start, end)), end))
+}
+
+#[tactic(auto, unfolding(cxx_grammar::specs::Units::decl_item))]
+fn decl_item(alloc: Global, tokens: &Tokens, start: u32) -> Result<(Item, u32), Fault>
+    ensures { Gives (spec.decl_item tokens.now start) result }
+{
+    let (x, end) = declaration(alloc, tokens, start)?;
+    Ok((Item::Decl(x), end))
+}
+
+#[tactic(auto, unfolding(cxx_grammar::specs::Units::empty_item))]
+fn empty_item(tokens: &Tokens, start: u32) -> Result<(Item, u32), Fault>
+    ensures { Gives (spec.empty_item tokens.now start) result }
+{
+    let end = expect(tokens, SEMICOLON, start)?;
+    Ok((Item::Empty(span(tokens, start, end)), end))
+}
+
+#[tactic(auto, unfolding(crate::specs::Joined::namespace_item))]
+fn namespace_item(alloc: Global, tokens: &Tokens, start: u32) -> Result<(Item, u32), Fault>
+    ensures { Gives (joined.namespace_item tokens.now start) result }
+{
+    if sees_ahead(tokens, EQUAL, start, 2) {
+        decl_item(alloc, tokens, start)
+    } else {
+        namespace_head(alloc, tokens, start)
+    }
+}
+
+#[tactic(auto, using(crate::proofs::ItemForms::item_arms))]
+fn item(alloc: Global, tokens: &Tokens, start: u32) -> Result<(Item, u32), Fault>
+    ensures { Gives (spec.item tokens.now start) result }
+{
+    match kind_at(tokens, start) {
+        Some(Seen::Word(word)) => {
+            if word == NAMESPACE {
+                namespace_item(alloc, tokens, start)
+            } else {
+                decl_item(alloc, tokens, start)
+            }
+        }
+        Some(Seen::Punctuator(mark)) => {
+            if mark == RIGHT_BRACE {
+                close_item(tokens, start)
+            } else if mark == SEMICOLON {
+                empty_item(tokens, start)
+            } else {
+                decl_item(alloc, tokens, start)
+            }
+        }
+        Some(Seen::Identifier) => decl_item(alloc, tokens, start),
+        Some(Seen::Integer) => decl_item(alloc, tokens, start),
+        Some(Seen::Character) => decl_item(alloc, tokens, start),
+        Some(Seen::Text) => decl_item(alloc, tokens, start),
+        None => decl_item(alloc, tokens, start),
+    }
+}
+
+// How many namespaces are open behind an item.
+fn opens(heads: u64, item: &Item) -> u64
+    requires { heads + 1 < 2 ^ 64 }
+    ensures { result ≡ spec.opens heads item.now }
+{
+    match item {
+        Item::NamespaceHead(_, _) => heads + 1,
+        Item::Close(_) => heads.saturating_sub(1),
+        Item::Decl(_) => heads,
+        Item::Empty(_) => heads,
+    }
+}
+
+// Whether an item is a `}` where no namespace is open.
+fn closes_none(heads: u64, item: &Item) -> bool
+    ensures { result ≡ spec.closes_none heads item.now }
+{
+    match item {
+        Item::Close(_) => heads == 0,
+        _ => false,
+    }
+}
+
+// The unit of the items, where no namespace is open at the end, which is at this token.
+#[tactic(auto, unfolding(cxx_reading::specs::Reading::span))]
+fn at_end(tokens: &Tokens, heads: u64, items: Items<Item>, at: u32) -> Result<Unit, SyntaxFault>
+    ensures { Says tokens.now (spec.at_end tokens.now heads items at) result }
+{
+    if heads == 0 {
+        Ok(Unit { items })
+    } else {
+        Err(SyntaxFault::S1(span(tokens, at, at).place))
+    }
+}
+
+/// The unit of a source text, exactly where the grammar derives one ([basic.link]). Otherwise the first item that is too
+/// deep, or where nothing begins, or that is a `}` that closes no namespace, decides: `S2` at its first character where it
+/// is too deep, and else `S1` there. Where all items read and a namespace is left open, it is `S1` just past the last
+/// character. Or `Memory`, of which nothing is said.
+#[tactic(auto, unfolding(cxx_reading::specs::Reading::span, cxx_grammar::specs::Units::unit), using(crate::proofs::UnitTurns::unit_turns))]
+pub fn unit(alloc: Global, tokens: &Tokens) -> Result<Unit, SyntaxFault>
+    ensures { Says tokens.now (spec.unit tokens.now) result }
+{
+    let mut heads = 0;
+    let mut items = Items::new(alloc);
+    let mut at = 0;
+    for _turn in 0..tokens.list.len() {
+        if at as usize >= tokens.list.len() {
+            return at_end(tokens, heads, items, at);
+        }
+        match item(alloc, tokens, at) {
+            Ok((x, after)) => {
+                if closes_none(heads, &x) {
+                    return Err(SyntaxFault::S1(span(tokens, at, at).place));
+                }
+                heads = opens(heads, &x);
+                items.push(x)?;
+                at = after;
+            }
+            Err(Fault::Syntax) => return Err(SyntaxFault::S1(span(tokens, at, at).place)),
+            Err(Fault::Deep) => return Err(SyntaxFault::S2(span(tokens, at, at).place)),
+            Err(Fault::Memory) => return Err(SyntaxFault::Memory),
+        }
+    }
+    at_end(tokens, heads, items, at)
+}
