@@ -1,7 +1,7 @@
 -- A turn of the loop that looks for a name among those before it.
 use Rattle.std.proofs.Common.{◌≡◌, ℕ, suc, ◌+◌, ◌<◌, Bool, true, false, not, ◌&&◌, cond, nat_eq, List, [], ◌∷◌, ◌++◌, length, get_or, drop, refl, sym, ap, ◌∙◌, add-one, drop-cons, true≢false}
 use Rattle.std.specs.List.{list_any}
-use Rattle.reflect_cli.specs.declared.cxx_tree.Declaration.{Declaration}
+use Rattle.reflect_cli.specs.declared.form_tree.Declaration.{Declaration}
 use Rattle.reflect_cli.specs.Form.{names_in}
 use Rattle.reflect_cli.specs.Search.{are_new}
 

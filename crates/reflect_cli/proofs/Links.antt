@@ -2,7 +2,7 @@
 use Rattle.std.proofs.Common.{◌≡◌, ℕ, suc, ◌+◌, ◌<◌, ℤ, List, ◌∷◌, length, get_or, drop, Ok, Err, sym, ap, ◌∙◌, add-one, drop-cons}
 use Rattle.cxx_base.specs.declared.place.Place.{Place}
 use Rattle.reflect_cli.specs.declared.const_eval.Refused.{Refused}
-use Rattle.reflect_cli.specs.declared.cxx_tree.Link.{Link}
+use Rattle.reflect_cli.specs.declared.form_tree.Link.{Link}
 use Rattle.reflect_cli.specs.Values.{Evaluated, ◌>>=◌}
 use Rattle.reflect_cli.specs.Chains.{link_value, links_value}
 

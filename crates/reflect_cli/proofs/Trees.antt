@@ -3,9 +3,9 @@ use Rattle.std.proofs.Common.{◌≡◌, List, [], ◌∷◌, fold, Ok, Err, ref
 use Rattle.cxx_base.specs.declared.operator.IntKind.TheVariants.{Int}
 use Rattle.cxx_base.specs.declared.place.Place.{Place}
 use Rattle.int_kinds.specs.Operate.{applied}
-use Rattle.reflect_cli.specs.declared.cxx_tree.Chain.{Chain}
-use Rattle.reflect_cli.specs.declared.cxx_tree.Link.{Link}
-use Rattle.reflect_cli.specs.declared.cxx_tree.Literal.{Literal}
+use Rattle.reflect_cli.specs.declared.form_tree.Chain.{Chain}
+use Rattle.reflect_cli.specs.declared.form_tree.Link.{Link}
+use Rattle.reflect_cli.specs.declared.form_tree.Literal.{Literal}
 use Rattle.reflect_cli.specs.Values.{Evaluated, Tree, Leaf, Operation, product_tree, product_value, sum_value, sum_place, first_token, value, at_place, operator_of, ◌>>=◌}
 use Rattle.reflect_cli.specs.Chains.{links_value, literal_value}
 

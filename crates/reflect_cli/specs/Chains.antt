@@ -5,8 +5,8 @@ use Rattle.cxx_base.specs.declared.operator.IntKind.TheVariants.{Int}
 use Rattle.cxx_base.specs.declared.place.Place.{Place}
 use Rattle.int_kinds.specs.Operate.{applied}
 use Rattle.reflect_cli.specs.Values.{Evaluated, at_place, operator_of, ◌>>=◌}
-use Rattle.reflect_cli.specs.declared.cxx_tree.Link.{Link}
-use Rattle.reflect_cli.specs.declared.cxx_tree.Literal.{Literal}
+use Rattle.reflect_cli.specs.declared.form_tree.Link.{Link}
+use Rattle.reflect_cli.specs.declared.form_tree.Literal.{Literal}
 
 -- the left operand is there
 abbrev pub link_value : {A : Type 0} → Place → (A → Evaluated) → ℤ → Link A → Evaluated

@@ -2,9 +2,9 @@
 use Rattle.std.specs.Prelude.{ℕ, ◌+◌, Bool, true, not, ◌&&◌, ◌==◌, nat_le, List, [], ◌∷◌, length, map, sum_by, codes}
 use Rattle.std.specs.List.{list_all, list_any}
 use Rattle.cxx_base.specs.Texts.{library_names, number_of}
-use Rattle.reflect_cli.specs.declared.cxx_tree.Chain.{Chain}
-use Rattle.reflect_cli.specs.declared.cxx_tree.Literal.{Literal}
-use Rattle.reflect_cli.specs.declared.cxx_tree.Declaration.{Declaration}
+use Rattle.reflect_cli.specs.declared.form_tree.Chain.{Chain}
+use Rattle.reflect_cli.specs.declared.form_tree.Literal.{Literal}
+use Rattle.reflect_cli.specs.declared.form_tree.Declaration.{Declaration}
 
 -- how many literals a tree has
 abbrev pub product_size : Chain Literal → ℕ

@@ -1,5 +1,4 @@
-pub mod Grammar
-pub mod Gives
+pub mod Accepted
 pub mod Form
 pub mod Search
 pub mod Values

@@ -6,7 +6,7 @@ use Rattle.int_kinds.specs.declared.fault.ArithFault.TheVariants.{Overflow, Zero
 use Rattle.reflect_cli.specs.Values.{Evaluated, sum_value, sum_place}
 use Rattle.reflect_cli.specs.declared.core_tree.Outcome.{Outcome}
 use Rattle.reflect_cli.specs.declared.core_tree.Outcome.TheVariants.{Constant, Refused}
-use Rattle.reflect_cli.specs.declared.cxx_tree.Declaration.{Declaration}
+use Rattle.reflect_cli.specs.declared.form_tree.Declaration.{Declaration}
 
 -- the number of a fault among those of V1
 abbrev pub detail_of : ArithFault → ℕ

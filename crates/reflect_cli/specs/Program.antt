@@ -1,5 +1,6 @@
 -- The program of a source text, or why it has none.
-use Rattle.std.specs.Prelude.{if◌then◌else◌, List, Option, None, Some, Result, Ok, Err}
+use Rattle.std.specs.Prelude.{◌≡◌, refl, ℕ, ◌^◌, Bool, true, false, nat_lt, if◌then◌else◌, List, length, Option, None, Some, Result, Ok, Err, slice_get}
+use Rattle.std.proofs.lemmas.Bool.{ltb-true}
 use Rattle.cxx_base.specs.Texts.{Text, library_names}
 use Rattle.cxx_base.specs.declared.place.Place.{Place}
 use Rattle.cxx_base.specs.declared.refusal.Code.{Code}
@@ -10,8 +11,12 @@ use Rattle.cxx_tokens.specs.Lex.{Lexed, lex}
 use Rattle.cxx_tokens.specs.declared.fault.LexFault.{LexFault}
 use Rattle.cxx_tokens.specs.declared.fault.LexFault.TheVariants.{L1, L2, L3, L4, L5, Memory}
 use Rattle.reflect_cli.specs.Form.{is_in_form}
-use Rattle.reflect_cli.specs.Grammar.{unit}
-use Rattle.reflect_cli.specs.declared.cxx_tree.Declaration.{Declaration}
+use Rattle.cxx_grammar.specs.Units.{Derived, Derives, Refused, unit}
+use Rattle.cxx_reading.specs.Reading.{Nothing, TooDeep, place_of}
+use Rattle.cxx_tokens.specs.declared.token.Token.{Token}
+use Rattle.cxx_tokens.specs.declared.token.Tokens.{Tokens}
+use Rattle.reflect_cli.specs.Accepted.{declarations}
+use Rattle.reflect_cli.specs.declared.form_tree.Declaration.{Declaration}
 use Rattle.reflect_cli.specs.declared.program.Program.{Program}
 
 -- a refusal of the source as a whole, at a place
@@ -33,21 +38,40 @@ text_refusal (L5 place) = refusal_at code.L5 place
 text_refusal Memory = source_refusal code.S1
 
 abbrev pub formed : List Text → List Declaration → Result Program Refusal
-formed names declarations =
-    if is_in_form declarations then Ok (record { names = names; declarations = declarations }) else Err (source_refusal code.S1)
+formed names found =
+    if is_in_form found then Ok (record { names = names; declarations = found }) else Err (source_refusal code.T8)
 
 abbrev pub formed_by : List Text → Option (List Declaration) → Result Program Refusal
-formed_by names None = Err (source_refusal code.S1)
-formed_by names (Some declarations) = formed names declarations
+formed_by names None = Err (source_refusal code.T8)
+formed_by names (Some found) = formed names found
 
-abbrev pub parsed : Lexed → Result Program Refusal
-parsed lexed = formed_by lexed.names (unit lexed.tokens)
+-- the first character of a token, or the place just past the last one of the text
+abbrev pub place_at : Tokens → ℕ → Place
+place_at tokens i = place_of tokens.end (slice_get tokens.list i)
+
+abbrev pub parsed_by : List Text → Tokens → Derived → Result Program Refusal
+parsed_by names tokens (Derives items) = formed_by names (declarations items)
+parsed_by names tokens (Refused Nothing i) = Err (refusal_at code.S1 (place_at tokens i))
+parsed_by names tokens (Refused TooDeep i) = Err (refusal_at code.S2 (place_at tokens i))
+
+abbrev pub parsed : List Text → Tokens → Result Program Refusal
+parsed names tokens = parsed_by names tokens (unit tokens)
+
+-- The tokens with the end of their text, where a `u32` numbers them.
+abbrev pub numbered : (list : List Token) → Place → (is_short : Bool) → nat_lt (length list) (2 ^ 32) ≡ is_short → Option Tokens
+numbered list end true short = Some (record { list = list; end = end; short = ltb-true (length list) (2 ^ 32) short })
+numbered list end false short = None
+
+-- A text that is not too long has no more tokens than bytes, so the first line is for nothing but completeness.
+abbrev pub parsed_if_any : List Text → Option Tokens → Result Program Refusal
+parsed_if_any names None = Err (source_refusal code.L6)
+parsed_if_any names (Some tokens) = parsed names tokens
 
 abbrev pub program_by : Result Lexed LexFault → Result Program Refusal
-program_by (Ok lexed) = parsed lexed
+program_by (Ok lexed) = parsed_if_any lexed.names (numbered lexed.tokens lexed.end (nat_lt (length lexed.tokens) (2 ^ 32)) refl)
 program_by (Err fault) = Err (text_refusal fault)
 
--- The names and declarations of a text of the accepted form. A text without tokens is refused as they are; one that has tokens
--- and is not of the form is refused S1 at its start.
+-- The names and declarations of a text of the accepted form. A text without tokens is refused as they are, and one of which the
+-- grammar derives no unit is refused S1 or S2 where it says. A unit that is not of the form is refused T8 at the start.
 unfoldable pub program_of : Text → Result Program Refusal
 program_of text = program_by (lex library_names text)

@@ -7,10 +7,10 @@ use Rattle.cxx_base.specs.declared.place.Place.{Place}
 use Rattle.int_kinds.specs.declared.fault.ArithFault.{ArithFault}
 use Rattle.int_kinds.specs.Operate.{applied}
 use Rattle.reflect_cli.specs.declared.const_eval.Refused.{Refused}
-use Rattle.reflect_cli.specs.declared.cxx_tree.Arithmetic.{Arithmetic}
-use Rattle.reflect_cli.specs.declared.cxx_tree.Arithmetic.TheVariants.{Add, Sub, Mul, Div, Rem}
-use Rattle.reflect_cli.specs.declared.cxx_tree.Chain.{Chain}
-use Rattle.reflect_cli.specs.declared.cxx_tree.Literal.{Literal}
+use Rattle.reflect_cli.specs.declared.form_tree.Arithmetic.{Arithmetic}
+use Rattle.reflect_cli.specs.declared.form_tree.Arithmetic.TheVariants.{Add, Sub, Mul, Div, Rem}
+use Rattle.reflect_cli.specs.declared.form_tree.Chain.{Chain}
+use Rattle.reflect_cli.specs.declared.form_tree.Literal.{Literal}
 
 abbrev pub Evaluated : Type 0
 Evaluated = Result ℤ Refused

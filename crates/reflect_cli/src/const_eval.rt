@@ -7,7 +7,7 @@ ghost use Rattle.int_kinds.specs.Operate.{applied};
 ghost use Rattle.reflect_cli.specs.Chains as chain;
 ghost use Rattle.reflect_cli.specs.Values as spec;
 
-use crate::cxx_tree::{Arithmetic, Link, Literal, Product, Sum};
+use crate::form_tree::{Arithmetic, Link, Literal, Product, Sum};
 use cxx_base::Place;
 use int_kinds::{ArithFault, IntKind, IntOp, apply};
 

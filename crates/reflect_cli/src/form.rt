@@ -5,7 +5,7 @@ ghost use Rattle.std.specs.List.{list_all};
 ghost use Rattle.reflect_cli.specs.Form as spec;
 ghost use Rattle.reflect_cli.specs.Search.{are_new};
 
-use crate::cxx_tree::{Declaration, Sum};
+use crate::form_tree::{Declaration, Sum};
 use cxx_base::{MAX_PIECES, Memory};
 use indexmap::IndexSet;
 use std::alloc::Global;

@@ -1,13 +1,12 @@
 //! The translator's program: it reads a source text, translates it, and writes the report.
 #![tactic(auto)]
 
+mod accepted;
 mod answer;
 mod const_eval;
 mod core_tree;
-mod cxx_tree;
 mod form;
-mod parse_decl;
-mod parse_expr;
+mod form_tree;
 mod piece_order;
 mod program;
 mod report_print;

@@ -5,7 +5,7 @@ ghost use Rattle.reflect_cli.specs.Order as spec;
 
 use crate::const_eval::{first_token, sum_value};
 use crate::core_tree::Outcome;
-use crate::cxx_tree::Declaration;
+use crate::form_tree::Declaration;
 use cxx_base::{Code, Memory, Refusal};
 use int_kinds::ArithFault;
 use sqlite_items::Items;

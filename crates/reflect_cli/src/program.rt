@@ -1,15 +1,17 @@
 //! From bytes to a program.
 
-ghost use Rattle.std.specs.Prelude.{◌≡◌, ◌≤◌, ◌<◌, ◌^◌, IfOk, length};
-ghost use Rattle.reflect_cli.specs.Answers.{GivesProgram, fault_of};
+ghost use Rattle.std.specs.Prelude.{◌≡◌, ◌≤◌, IfOk, length};
+ghost use Rattle.reflect_cli.specs.Accepted as accepted;
+ghost use Rattle.reflect_cli.specs.Answers.{GivesProgram, fault_of, syntax_fault_of};
 ghost use Rattle.reflect_cli.specs.Program as spec;
 
-use crate::cxx_tree::Declaration;
+use crate::accepted::declarations;
 use crate::form::is_in_form;
-use crate::parse_decl::unit;
-use crate::parse_expr::ParseFault;
+use crate::form_tree::Declaration;
 use cxx_base::{Code, Memory, Names, Place, Refusal};
 use cxx_tokens::{LexFault, Tokens, tokens};
+use cxx_tree::Item;
+use parse_decl::{SyntaxFault, unit};
 use sqlite_items::Items;
 use std::alloc::Global;
 
@@ -70,6 +72,17 @@ fn fault_of(fault: LexFault) -> ProgramFault
     }
 }
 
+// The same of a text that has no unit.
+fn syntax_fault_of(fault: SyntaxFault) -> ProgramFault
+    ensures { result ≡ syntax_fault_of fault }
+{
+    match fault {
+        SyntaxFault::S1(place) => ProgramFault::Refused(refusal_at(Code::S1, place)),
+        SyntaxFault::S2(place) => ProgramFault::Refused(refusal_at(Code::S2, place)),
+        SyntaxFault::Memory => ProgramFault::Memory,
+    }
+}
+
 fn formed(
     alloc: Global,
     names: Names,
@@ -84,25 +97,35 @@ fn formed(
             declarations,
         })
     } else {
-        Err(ProgramFault::Refused(source_refusal(Code::S1)))
+        Err(ProgramFault::Refused(source_refusal(Code::T8)))
     }
 }
 
-fn parsed(alloc: Global, names: Names, tokens: &Tokens) -> Result<Program, ProgramFault>
-    requires { length tokens.now.list < 2 ^ 32 }
-    ensures program { GivesProgram (spec.parsed (record { tokens = tokens.now.list; names = names; end = tokens.now.end })) result }
+fn accepted(alloc: Global, names: Names, items: &[Item]) -> Result<Program, ProgramFault>
+    ensures program { GivesProgram (spec.formed_by names (accepted.declarations items.now)) result }
     ensures few { IfOk result (λ program. length program.declarations ≤ 65536) }
 {
-    match unit(alloc, tokens.list.as_slice()) {
-        Ok(declarations) => formed(alloc, names, declarations),
-        Err(ParseFault::Syntax) => Err(ProgramFault::Refused(source_refusal(Code::S1))),
-        Err(ParseFault::Memory) => Err(ProgramFault::Memory),
+    match declarations(alloc, items)? {
+        Some(declarations) => formed(alloc, names, declarations),
+        None => Err(ProgramFault::Refused(source_refusal(Code::T8))),
     }
 }
 
-/// The program of a source text. A text that has no tokens is refused with the code of the lexer's fault at its place; one
-/// that has tokens and is not of the accepted form is refused `S1` at its start.
-#[tactic(auto, using(crate::proofs::Refusals::without_tokens), unfolding(crate::specs::Program::program_of))]
+#[tactic(auto, using(crate::proofs::Refusals::with_unit, crate::proofs::Refusals::without_unit))]
+fn parsed(alloc: Global, names: Names, tokens: &Tokens) -> Result<Program, ProgramFault>
+    ensures program { GivesProgram (spec.parsed names tokens.now) result }
+    ensures few { IfOk result (λ program. length program.declarations ≤ 65536) }
+{
+    match unit(alloc, tokens) {
+        Ok(unit) => accepted(alloc, names, unit.items.as_slice()),
+        Err(fault) => Err(syntax_fault_of(fault)),
+    }
+}
+
+/// The program of a source text. A text that has no tokens is refused with the code of the lexer's fault at its place, and
+/// one of which the grammar derives no unit `S1` or `S2` where the parser says. A unit that is not of the accepted form is
+/// refused `T8` at the start of the text.
+#[tactic(auto, using(crate::proofs::Refusals::with_tokens, crate::proofs::Refusals::without_tokens), unfolding(crate::specs::Program::program_of))]
 pub fn program_of(alloc: Global, bytes: &[u8]) -> Result<Program, ProgramFault>
     requires { length bytes.now ≤ 4194304 }
     ensures program { GivesProgram (spec.program_of bytes.now) result }

@@ -34,6 +34,7 @@ impl From<Memory> for Unanswered {
 fn answer_from<S: Source>(alloc: Global, source: &mut S) -> Result<Answer, Unanswered>
     ensures told { IfOk result (λ answer. IfSome (S.left source.old) (λ xs. IsTold (report_of xs) answer)) }
     ensures read { IfOk result (λ _. Drops (S.left source.old) (S.left source.new) (MAX_SOURCE + 1)) }
+    ensures taken { LosesPrefix (S.left source.old) (S.left source.new) }
     ensures fault { IsErrOf result Unanswered.Fault → Rose (S.faults source.old) (S.faults source.new) }
     ensures count { S.faults source.old ≤ S.faults source.new }
 {
@@ -80,6 +81,9 @@ pub fn run_in_order<S: Source, K: Sink>(
     ensures prefix { 4 ≤ result → IfSome (S.left source.old) (λ xs. IsSomeAnd (told words.now xs) (λ answer.
         AppendsPrefix (K.held sink.old) (K.held sink.new) answer.text)) }
 
+    // Whatever the status but 2, what the source has lost is a front of its bytes.
+    ensures taken { result ≢ 2 → LosesPrefix (S.left source.old) (S.left source.new) }
+
     // There is no other answer, so where the words are in the grammar and neither device failed, the text that is told was
     // written with its status, unless memory ran out.
     ensures statuses { result ≤ 5 }
@@ -98,6 +102,7 @@ fn order<S: Source, K: Sink>(alloc: Global, source: &mut S, sink: &mut K) -> u8
     ensures read { result ≤ 1 → Drops (S.left source.old) (S.left source.new) (MAX_SOURCE + 1) }
     ensures written { result ≤ 1 → IfSome (S.left source.old) (λ xs.
         ((report_of xs).status ≡ result) × Appends (K.held sink.old) (K.held sink.new) (report_of xs).text) }
+    ensures taken { LosesPrefix (S.left source.old) (S.left source.new) }
     ensures accepted { result ≢ 2 }
     ensures source_fault { result ≡ 3 → Rose (S.faults source.old) (S.faults source.new) }
     ensures unwritten { result ≡ 3 → sink.new ≡ sink.old }

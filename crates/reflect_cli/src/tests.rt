@@ -60,9 +60,11 @@ fn run_over(alloc: Global, words: &[&str], source: &[u8], devices: Devices) -> R
 
 const SYNTAX: &str = "1:1: error S1: syntax error\n";
 
+const PROFILE: &str = "1:1: error T8: declaration is outside the profile\n";
+
 /// A source, the report that is told for it, and the status. The values are from exact arithmetic, the places are
 /// counted by hand.
-const REPORTS: [(&str, &str, u8); 29] = [
+const REPORTS: [(&str, &str, u8); 61] = [
     ("", "pieces 0 refused 0\n", 0),
     ("\n \n", "pieces 0 refused 0\n", 0),
     (
@@ -113,26 +115,26 @@ const REPORTS: [(&str, &str, u8); 29] = [
         "1:19: error V1: signed overflow (at 1:19)\npieces 1 refused 1\n",
         1,
     ),
-    ("constexpr int a = 2147483648;", SYNTAX, 1),
+    ("constexpr int a = 2147483648;", PROFILE, 1),
     // octal, hexadecimal and binary literals are of the form where they are 0
     (
         "constexpr int a = 00 - 0x0 - 0b0;",
         "const a : const int = 0\npieces 1 refused 0\n",
         0,
     ),
-    ("constexpr int a = 01;", SYNTAX, 1),
-    ("constexpr int a = 0x1;", SYNTAX, 1),
-    ("constexpr int a = 1u;", SYNTAX, 1),
-    ("constexpr int a = 0l;", SYNTAX, 1),
-    ("constexpr int a = '1';", SYNTAX, 1),
-    ("constexpr int a = \"1\";", SYNTAX, 1),
+    ("constexpr int a = 01;", PROFILE, 1),
+    ("constexpr int a = 0x1;", PROFILE, 1),
+    ("constexpr int a = 1u;", PROFILE, 1),
+    ("constexpr int a = 0l;", PROFILE, 1),
+    ("constexpr int a = '1';", PROFILE, 1),
+    ("constexpr int a = \"1\";", PROFILE, 1),
     ("constexpr int a = ;", SYNTAX, 1),
     ("constexpr int a = 1 + ;", SYNTAX, 1),
-    ("constexpr int a = 1 + * 2;", SYNTAX, 1),
+    ("constexpr int a = 1 + * 2;", PROFILE, 1),
     ("constexpr int a = 1", SYNTAX, 1),
-    ("constexprint a = 1;", SYNTAX, 1),
+    ("constexprint a = 1;", PROFILE, 1),
     ("constexpr int class = 1;", SYNTAX, 1),
-    ("constexpr int std = 1;", SYNTAX, 1),
+    ("constexpr int std = 1;", PROFILE, 1),
     (
         "constexpr int meta = 1;",
         "const meta : const int = 1\npieces 1 refused 0\n",
@@ -140,9 +142,58 @@ const REPORTS: [(&str, &str, u8); 29] = [
     ),
     (
         "constexpr int a = 1; constexpr int b = 1; constexpr int a = 2;",
-        SYNTAX,
+        PROFILE,
         1,
     ),
+    // the type is the same, in other words
+    (
+        "constexpr signed a = 1;",
+        "const a : const int = 1\npieces 1 refused 0\n",
+        0,
+    ),
+    ("const int a = 1;", PROFILE, 1),
+    ("constexpr const int a = 1;", PROFILE, 1),
+    ("int a = 1;", PROFILE, 1),
+    ("inline constexpr int a = 1;", PROFILE, 1),
+    ("static constexpr int a = 1;", PROFILE, 1),
+    ("constexpr constexpr int a = 1;", SYNTAX, 1),
+    ("int constexpr a = 1;", SYNTAX, 1),
+    ("constexpr long a = 1;", PROFILE, 1),
+    ("constexpr int* a = 1;", PROFILE, 1),
+    ("constexpr int& a = 1;", PROFILE, 1),
+    ("constexpr int a;", PROFILE, 1),
+    ("constexpr int a{1};", PROFILE, 1),
+    ("constexpr int a = {1};", PROFILE, 1),
+    ("constexpr int a[1] = 1;", PROFILE, 1),
+    ("constexpr int a = (1);", PROFILE, 1),
+    ("constexpr int a = -1;", PROFILE, 1),
+    ("constexpr int a = 1 << 2;", PROFILE, 1),
+    ("constexpr int a = 1 ? 2 : 3;", PROFILE, 1),
+    ("constexpr int a = int(1);", PROFILE, 1),
+    // at the start of the text, wherever the unit begins
+    ("\n/**/ int a;", PROFILE, 1),
+    (";", PROFILE, 1),
+    ("constexpr int a = 1 + 2 * 3 + (4);", PROFILE, 1),
+    ("constexpr int a = 2 * 3 * b;", PROFILE, 1),
+    ("constexpr int a = 1;;", PROFILE, 1),
+    ("namespace a { constexpr int b = 1; }", PROFILE, 1),
+    ("int f(int a) { return a + 1; } struct b { };", PROFILE, 1),
+    // the item that decides, where it begins
+    (
+        "constexpr int a = 1;\nconsteval {",
+        "2:1: error S1: syntax error\n",
+        1,
+    ),
+    (
+        "constexpr int a = 1; }",
+        "1:22: error S1: syntax error\n",
+        1,
+    ),
+    ("int f() { i = j = k; } x y z", SYNTAX, 1),
+    // the grammar is asked before the form
+    ("int a; }", "1:8: error S1: syntax error\n", 1),
+    // a namespace that is left open, at the end of the text
+    ("namespace a { // b", "1:19: error S1: syntax error\n", 1),
     // gaps of each kind, a mark of the encoding, and a name beyond ASCII
     (
         "\u{feff}# 1 \"a.cpp\"\nconstexpr\tint/**/\u{f6}\r\n= 1'0 // ten\n;",
@@ -201,7 +252,7 @@ const WITHOUT_TOKENS: [(&[u8], &str); 10] = [
         "1:1: error L3: integer literal is too large\n",
     ),
     // and before a syntax error that stands before it
-    (b"int a = @;", "1:9: error L2: no token begins here\n"),
+    (b"} @", "1:3: error L2: no token begins here\n"),
 ];
 
 #[test]
@@ -266,11 +317,18 @@ const LONG_NAME: &str = "1:15: error L5: identifier is too long or not in normal
 
 const TOO_LONG: &str = "1:1: error L6: source is longer than 4194304 bytes\n";
 
-/// Sources at a limit and one beyond it: `before`, so many times `unit`, `after`, and the last line of the report.
-const LIMITS: [(&str, &str, usize, &str, &str); 9] = [
+/// Sources at a limit and one beyond it: `before`, so many times `unit`, `after`, the last line of the report, and the status.
+const LIMITS: [(&str, &str, usize, &str, &str, u8); 11] = [
     // names of 255 and 256 bytes
-    ("constexpr int ", "n", 255, " = 1;", "pieces 1 refused 0\n"),
-    ("constexpr int ", "n", 256, " = 1;", LONG_NAME),
+    (
+        "constexpr int ",
+        "n",
+        255,
+        " = 1;",
+        "pieces 1 refused 0\n",
+        0,
+    ),
+    ("constexpr int ", "n", 256, " = 1;", LONG_NAME, 1),
     // chains of 256 and 257 literals
     (
         "constexpr int a = 1",
@@ -278,8 +336,9 @@ const LIMITS: [(&str, &str, usize, &str, &str); 9] = [
         255,
         ";",
         "pieces 1 refused 0\n",
+        0,
     ),
-    ("constexpr int a = 1", "+1", 256, ";", SYNTAX),
+    ("constexpr int a = 1", "+1", 256, ";", PROFILE, 1),
     // products count with the sum that they stand in
     (
         "constexpr int a = 1",
@@ -287,13 +346,24 @@ const LIMITS: [(&str, &str, usize, &str, &str); 9] = [
         127,
         "+1;",
         "pieces 1 refused 0\n",
+        0,
     ),
-    ("constexpr int a = 1", "-1*1", 128, ";", SYNTAX),
+    ("constexpr int a = 1", "-1*1", 128, ";", PROFILE, 1),
+    // nesting of 256 and 257 levels, where the second decides before the end of the text is missed
+    ("consteval ", "{", 256, "", SYNTAX, 1),
+    (
+        ";consteval ",
+        "{",
+        257,
+        "",
+        "1:2: error S2: nesting is deeper than 256\n",
+        1,
+    ),
     // the greatest length of a source, and one more
-    (A, " ", MAX_SOURCE - 29, "", "pieces 1 refused 0\n"),
-    (A, " ", MAX_SOURCE - 28, "", TOO_LONG),
+    (A, " ", MAX_SOURCE - 29, "", "pieces 1 refused 0\n", 0),
+    (A, " ", MAX_SOURCE - 28, "", TOO_LONG, 1),
     // its length is told before what it has
-    ("", "@", MAX_SOURCE + 1, "", TOO_LONG),
+    ("", "@", MAX_SOURCE + 1, "", TOO_LONG, 1),
 ];
 
 /// A code, a detail, whether the refusal was met in an evaluation, and its line at line 3 and column 19, in an evaluation
@@ -353,6 +423,7 @@ fn limits_are_exact(rt: HostRuntime) -> Result<(), Fail> {
             found.held.as_slice().ends_with(case.4.as_bytes()),
             "the last line"
         );
+        assert_eq!(rt; found.status, case.5, "the status");
         assert_eq!(rt; found.left, 0, "one byte beyond the limit is read");
     }
     Ok(())
@@ -418,14 +489,15 @@ fn devices_fail(rt: HostRuntime) -> Result<(), Fail> {
 
 /// Small sources with their reports: one without a refusal, one with a refused piece, two that are refused whole, and of
 /// these one by the lexer.
-const SMALL: [(&str, &str, u8); 4] = [
+const SMALL: [(&str, &str, u8); 5] = [
     (A, A_REPORT, 0),
     (
         "constexpr int a = 1 / 0;",
         "1:19: error V1: division by zero (at 1:19)\npieces 1 refused 1\n",
         1,
     ),
-    ("int a;", SYNTAX, 1),
+    ("int a;", PROFILE, 1),
+    ("int a", SYNTAX, 1),
     ("a = @", "1:5: error L2: no token begins here\n", 1),
 ];
 

@@ -1,4 +1,4 @@
-//! The trees of a source text.
+//! The trees of the accepted form.
 
 use cxx_base::{IntOp, Name, Place};
 use sqlite_items::Items;

@@ -1,0 +1,273 @@
+//! From parsed trees to the declarations of the accepted form.
+
+ghost use Rattle.std.specs.Prelude.{◌≡◌, ◌++◌, ◌∷◌, [], IfOk, OnOk, OnErr};
+ghost use Rattle.reflect_cli.specs.Accepted as spec;
+
+use crate::form_tree::{Arithmetic, Chain, Declaration, Link, Literal, Product, Sum};
+use cxx_base::{IntKind, IntOp, Memory, Place};
+use cxx_tree::{
+    BasicTree, BinaryOp, Decl, Evaluated, Expr, Fund, InitTree, IntegerLiteral, Item, Operation,
+    Specifiers, TypeTree, VariableTree,
+};
+use sqlite_items::Items;
+use std::alloc::{AllocError, Global};
+
+fn int_literal(place: Place, decimal: bool, value: u64) -> Option<Literal>
+    ensures { result ≡ spec.int_literal place decimal value }
+{
+    if (decimal || value == 0) && value <= 2_147_483_647 {
+        Some(Literal {
+            place,
+            value: value as i32,
+        })
+    } else {
+        None
+    }
+}
+
+fn literal_of(place: Place, n: IntegerLiteral) -> Option<Literal>
+    ensures { result ≡ spec.literal_of place n }
+{
+    if !n.unsigned && n.longs == 0 {
+        int_literal(place, n.decimal, n.n)
+    } else {
+        None
+    }
+}
+
+fn literal(x: &Expr) -> Option<Literal>
+    ensures { result ≡ spec.literal x.now }
+{
+    match x {
+        Expr::Integer(span, n) => literal_of(span.place, *n),
+        _ => None,
+    }
+}
+
+fn multiplicative(op: BinaryOp) -> Option<Arithmetic>
+    ensures { result ≡ spec.multiplicative op }
+{
+    match op {
+        BinaryOp::Int(IntOp::Mul) => Some(Arithmetic::Mul),
+        BinaryOp::Int(IntOp::Div) => Some(Arithmetic::Div),
+        BinaryOp::Int(IntOp::Rem) => Some(Arithmetic::Rem),
+        _ => None,
+    }
+}
+
+fn additive(op: BinaryOp) -> Option<Arithmetic>
+    ensures { result ≡ spec.additive op }
+{
+    match op {
+        BinaryOp::Int(IntOp::Add) => Some(Arithmetic::Add),
+        BinaryOp::Int(IntOp::Sub) => Some(Arithmetic::Sub),
+        _ => None,
+    }
+}
+
+fn multiplicative_link(operation: &Operation) -> Option<Link<Literal>>
+    ensures { result ≡ spec.link spec.multiplicative spec.literal operation.now }
+{
+    let Operation::Operation(_, op, x) = operation;
+    match (multiplicative(*op), literal(x)) {
+        (Some(operator), Some(operand)) => Some(Link { operator, operand }),
+        _ => None,
+    }
+}
+
+// Puts a link at the end. The first takes room for itself alone: most chains are short.
+fn push<T: Drop>(alloc: Global, links: &mut Items<T>, link: T) -> Result<(), AllocError>
+    ensures ok { OnOk result (links.new ≡ links.old ++ link ∷ []) }
+    ensures err { OnErr result (links.new ≡ links.old) }
+{
+    if links.is_empty() {
+        *links = Items::from_vec(Vec::with_capacity(alloc, 1)?);
+    }
+    links.push(link)
+}
+
+fn multiplicative_links(
+    alloc: Global,
+    operations: &[Operation],
+) -> Result<Option<Items<Link<Literal>>>, Memory>
+    ensures { IfOk result (λ found. found ≡ spec.all_of (spec.link spec.multiplicative spec.literal) [] operations.now) }
+{
+    let mut found = Items::new(alloc);
+    let mut rest = operations;
+    while let Some((operation, more)) = rest.split_first() {
+        match multiplicative_link(operation) {
+            Some(link) => push(alloc, &mut found, link)?,
+            None => return Ok(None),
+        }
+        rest = more;
+    }
+    Ok(Some(found))
+}
+
+fn single<T: Drop>(alloc: Global, first: Option<T>) -> Option<Chain<T>>
+    ensures { result ≡ spec.chain_with first (Some []) }
+{
+    match first {
+        Some(first) => Some(Chain {
+            first,
+            rest: Items::new(alloc),
+        }),
+        None => None,
+    }
+}
+
+fn joined<T: Drop>(first: Option<T>, rest: Option<Items<Link<T>>>) -> Option<Chain<T>>
+    ensures { result ≡ spec.chain_with first rest }
+{
+    match (first, rest) {
+        (Some(first), Some(rest)) => Some(Chain { first, rest }),
+        _ => None,
+    }
+}
+
+// A multiplicative-expression ([expr.mul]).
+#[tactic(auto, using(crate::proofs::Rows::product_of_chain), unfolding(crate::specs::Accepted::product))]
+fn product(alloc: Global, x: &Expr) -> Result<Option<Product>, Memory>
+    ensures { IfOk result (λ found. found ≡ spec.product x.now) }
+{
+    match x {
+        Expr::Chain(_, first, operations) => Ok(joined(
+            literal(first.get()),
+            multiplicative_links(alloc, operations.as_slice())?,
+        )),
+        _ => Ok(single(alloc, literal(x))),
+    }
+}
+
+fn additive_link(alloc: Global, operation: &Operation) -> Result<Option<Link<Product>>, Memory>
+    ensures { IfOk result (λ found. found ≡ spec.link spec.additive spec.product operation.now) }
+{
+    let Operation::Operation(_, op, x) = operation;
+    match (additive(*op), product(alloc, x)?) {
+        (Some(operator), Some(operand)) => Ok(Some(Link { operator, operand })),
+        _ => Ok(None),
+    }
+}
+
+fn additive_links(
+    alloc: Global,
+    operations: &[Operation],
+) -> Result<Option<Items<Link<Product>>>, Memory>
+    ensures { IfOk result (λ found. found ≡ spec.all_of (spec.link spec.additive spec.product) [] operations.now) }
+{
+    let mut found = Items::new(alloc);
+    let mut rest = operations;
+    while let Some((operation, more)) = rest.split_first() {
+        match additive_link(alloc, operation)? {
+            Some(link) => push(alloc, &mut found, link)?,
+            None => return Ok(None),
+        }
+        rest = more;
+    }
+    Ok(Some(found))
+}
+
+#[tactic(auto, using(crate::proofs::Rows::sum_of_chain))]
+fn sum_of_products(alloc: Global, x: &Expr) -> Result<Option<Sum>, Memory>
+    ensures { IfOk result (λ found. found ≡ spec.sum_of_products x.now) }
+{
+    match x {
+        Expr::Chain(_, first, operations) => Ok(joined(
+            product(alloc, first.get())?,
+            additive_links(alloc, operations.as_slice())?,
+        )),
+        _ => Ok(None),
+    }
+}
+
+// An additive-expression ([expr.add]).
+#[tactic(auto, unfolding(crate::specs::Accepted::sum))]
+fn sum(alloc: Global, x: &Expr) -> Result<Option<Sum>, Memory>
+    ensures { IfOk result (λ found. found ≡ spec.sum x.now) }
+{
+    match product(alloc, x)? {
+        Some(first) => Ok(Some(Chain {
+            first,
+            rest: Items::new(alloc),
+        })),
+        None => sum_of_products(alloc, x),
+    }
+}
+
+fn is_only_constexpr(words: Specifiers) -> bool
+    ensures { result ≡ spec.is_only_constexpr words }
+{
+    !words.is_inline
+        && !words.is_static
+        && match words.evaluated {
+            Evaluated::Constexpr => true,
+            _ => false,
+        }
+}
+
+fn is_only_int(of: &TypeTree) -> bool
+    ensures { result ≡ spec.is_only_int of.now }
+{
+    match of {
+        TypeTree::Type(_, false, BasicTree::Fund(_, Fund::Int(IntKind::Int)), pointers, false) => {
+            pointers.is_empty()
+        }
+        _ => false,
+    }
+}
+
+fn has_form(x: &VariableTree) -> bool
+    ensures { result ≡ spec.has_form x.now }
+{
+    is_only_constexpr(x.specifiers) && is_only_int(&x.of_type) && x.bounds.is_empty()
+}
+
+fn initializer(alloc: Global, init: &Option<InitTree>) -> Result<Option<Sum>, Memory>
+    ensures { IfOk result (λ found. found ≡ spec.initializer init.now) }
+{
+    match init {
+        Some(InitTree::Equal(x)) => sum(alloc, x),
+        _ => Ok(None),
+    }
+}
+
+fn variable(alloc: Global, x: &VariableTree) -> Result<Option<Declaration>, Memory>
+    ensures { IfOk result (λ found. found ≡ spec.variable x.now) }
+{
+    if !has_form(x) {
+        return Ok(None);
+    }
+    match initializer(alloc, &x.init)? {
+        Some(initializer) => Ok(Some(Declaration {
+            name: x.name.name,
+            initializer,
+        })),
+        None => Ok(None),
+    }
+}
+
+fn declaration(alloc: Global, item: &Item) -> Result<Option<Declaration>, Memory>
+    ensures { IfOk result (λ found. found ≡ spec.declaration item.now) }
+{
+    match item {
+        Item::Decl(Decl::Variable(x)) => variable(alloc, x),
+        _ => Ok(None),
+    }
+}
+
+/// The declarations that the items of a unit are, or nothing where one of them is not `constexpr int NAME = SUM;`.
+#[tactic(auto, unfolding(crate::specs::Accepted::declarations))]
+pub fn declarations(alloc: Global, items: &[Item]) -> Result<Option<Items<Declaration>>, Memory>
+    ensures { IfOk result (λ found. found ≡ spec.declarations items.now) }
+{
+    let mut found = Items::new(alloc);
+    let mut rest = items;
+    while let Some((item, more)) = rest.split_first() {
+        match declaration(alloc, item)? {
+            Some(x) => found.push(x)?,
+            None => return Ok(None),
+        }
+        rest = more;
+    }
+    Ok(Some(found))
+}

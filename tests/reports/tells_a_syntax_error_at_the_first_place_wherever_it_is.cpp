@@ -1,5 +1,0 @@
-
-
-  constexpr int a = 1;
-  constexpr int b = 2;
-  oops
