@@ -1,0 +1,1 @@
+struct a { int b; consteval { f(); } };

@@ -1,0 +1,1 @@
+constexpr int const a = 1;

@@ -1,0 +1,10 @@
+class a {
+public:
+    ;
+    int b;
+protected:
+private:
+    int c;
+    ;;
+public: int d;
+};

@@ -1,0 +1,3 @@
+struct a { };
+struct b : [: ^^a :] { };
+struct c : public typename [: ^^a :], private ::b { };

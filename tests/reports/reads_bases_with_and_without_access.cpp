@@ -1,0 +1,5 @@
+struct a { };
+struct b { };
+struct c { };
+class d : public a, private b, protected c { };
+struct e : a, ::b { };

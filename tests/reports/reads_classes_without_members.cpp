@@ -1,0 +1,4 @@
+struct a;
+class b;
+struct a { };
+class b { };

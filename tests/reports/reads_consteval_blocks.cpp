@@ -1,0 +1,2 @@
+consteval { }
+consteval { int a = 1; { a = 2; } }

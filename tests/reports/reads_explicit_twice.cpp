@@ -1,0 +1,1 @@
+struct a { explicit explicit a(int b) { } };

@@ -1,0 +1,4 @@
+int a = 1;
+int b = - + ! ~ *& a;
+int c = - -a + + +a;
+int d = !!a;

@@ -1,0 +1,3 @@
+namespace a { namespace b { } }
+namespace c = a;
+namespace d = ::a::b;

@@ -1,0 +1,6 @@
+struct a { };
+namespace n { struct b { }; }
+a c;
+::a d;
+n::b e;
+const ::n::b* f;

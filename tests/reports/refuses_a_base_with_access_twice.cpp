@@ -1,0 +1,1 @@
+struct a { }; struct b : public private a { };

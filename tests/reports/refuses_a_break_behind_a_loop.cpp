@@ -1,0 +1,2 @@
+void f(int a) { while (a) { break; } }
+void g(int a) { while (a) { } break; }

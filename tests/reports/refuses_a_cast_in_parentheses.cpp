@@ -1,0 +1,2 @@
+int a = 1;
+int b = (a); int c = (int)a;

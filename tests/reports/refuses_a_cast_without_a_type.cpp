@@ -1,0 +1,1 @@
+int b = static_cast<int>(1); int c = static_cast<>(1);

@@ -1,0 +1,2 @@
+void f(int a) { int b; }
+void g(int a) { struct b { }; }

@@ -1,0 +1,2 @@
+struct a { };
+struct { int b; } c;

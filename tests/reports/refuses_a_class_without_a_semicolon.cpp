@@ -1,0 +1,3 @@
+struct a { };
+ struct b { int c; }
+int d;

@@ -1,0 +1,3 @@
+int extract;
+namespace m { int extract; }
+int b = extract < 1; int c = m::extract < 1;

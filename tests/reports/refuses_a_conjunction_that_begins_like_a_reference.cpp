@@ -1,0 +1,2 @@
+void f(int a) { 1 & a && a; }
+void g(int a) { a & a && a; }

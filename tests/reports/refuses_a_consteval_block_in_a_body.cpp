@@ -1,0 +1,2 @@
+void f(int a) { { { } } }
+void g(int a) { consteval { } }

@@ -1,0 +1,2 @@
+consteval { ; }
+ consteval { ;

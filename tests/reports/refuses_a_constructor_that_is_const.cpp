@@ -1,0 +1,1 @@
+struct a { int b() const { return 1; } }; struct c { c() const { } };

@@ -1,0 +1,2 @@
+struct a { a() { } };
+struct b { b(); };

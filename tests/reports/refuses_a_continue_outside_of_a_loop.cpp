@@ -1,0 +1,2 @@
+void f(int a) { for (;;) continue; }
+void g(int a) { if (a) { continue; } }

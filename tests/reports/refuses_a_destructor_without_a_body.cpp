@@ -1,0 +1,1 @@
+struct a { ~a() { } }; struct b { ~b(); };

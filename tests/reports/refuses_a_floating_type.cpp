@@ -1,0 +1,1 @@
+int a; double b = 1;

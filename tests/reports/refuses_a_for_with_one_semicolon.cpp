@@ -1,0 +1,2 @@
+void f(int a) { for (;;) ; }
+void g(int a) { for (;) ; }

@@ -1,0 +1,2 @@
+void f(int a) { for (;; ++a) ; }
+void g(int a) { for (;; ++a, ++a) ; }

@@ -1,0 +1,1 @@
+int b = 1; int c = [] { return 1; }();

@@ -1,0 +1,2 @@
+void f(int a) { while (a) ; }
+void g(int a) { b: goto b; }

@@ -1,0 +1,2 @@
+struct a { int b; a() : b(1) { } };
+struct c { c() : { } };

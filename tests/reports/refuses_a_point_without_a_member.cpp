@@ -1,0 +1,3 @@
+struct s { int b; };
+s a;
+int b = a.b; int c = a.;

@@ -1,0 +1,1 @@
+int b = (^^int) * 2; int c = ^^int * 2;

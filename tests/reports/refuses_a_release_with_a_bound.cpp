@@ -1,0 +1,2 @@
+void f(int a) { delete[] &a; }
+void g(int a) { delete[1] &a; }

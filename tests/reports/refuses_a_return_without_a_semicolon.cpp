@@ -1,0 +1,2 @@
+void f(int a) { return; }
+void g(int a) { return }

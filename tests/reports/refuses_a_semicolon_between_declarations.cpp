@@ -1,0 +1,3 @@
+constexpr int a = 1;
+;
+constexpr int b = 2;

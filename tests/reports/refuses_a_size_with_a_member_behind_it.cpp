@@ -1,0 +1,3 @@
+struct s { int b; };
+s a;
+int b = sizeof(a); int c = sizeof (a).b;

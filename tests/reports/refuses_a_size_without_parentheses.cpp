@@ -1,0 +1,2 @@
+int a = 1;
+int b = sizeof(a); int c = sizeof a;

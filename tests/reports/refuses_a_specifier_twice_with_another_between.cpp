@@ -1,0 +1,1 @@
+int a; constexpr static constexpr int b = 1;

@@ -1,0 +1,1 @@
+typename [: ^^int :] a; [: ^^int :] b;

@@ -1,0 +1,2 @@
+static_assert(1);
+static_assert();

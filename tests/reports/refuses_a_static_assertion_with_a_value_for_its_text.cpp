@@ -1,0 +1,1 @@
+static_assert(1); static_assert(1, 2);

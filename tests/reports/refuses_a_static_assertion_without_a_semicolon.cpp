@@ -1,0 +1,3 @@
+int a;
+  static_assert(1)
+int b;

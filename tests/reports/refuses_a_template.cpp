@@ -1,0 +1,2 @@
+int a;
+template <int b> struct c { };

@@ -1,0 +1,1 @@
+int b = 1; int c = throw 1;

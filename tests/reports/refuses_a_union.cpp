@@ -1,0 +1,1 @@
+struct a { }; union b { int c; char d; };

@@ -1,0 +1,2 @@
+void f(int a) { (typename [: ^^int :](1)); }
+void g(int a) { typename [: ^^int :](1); }

@@ -1,0 +1,2 @@
+void f(int a) { (std::vector<s>{}); }
+void g(int a) { std::vector<s>{}; }

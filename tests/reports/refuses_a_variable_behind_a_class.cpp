@@ -1,0 +1,2 @@
+struct a { };
+struct b { int c; } d;

@@ -1,0 +1,1 @@
+int a; consteval int b = 1;

@@ -1,0 +1,2 @@
+std::vector<a> b;
+ std::vector<a*> c;

@@ -1,0 +1,1 @@
+std::vector<a> b; ::std::vector<a> c;

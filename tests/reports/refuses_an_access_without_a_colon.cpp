@@ -1,0 +1,1 @@
+struct a { public: int b; }; struct c { public int d; };

@@ -1,0 +1,1 @@
+int b = sizeof(int); int c = alignof(int);

@@ -1,0 +1,1 @@
+int b = *new int; int c = *::new int;

@@ -1,0 +1,2 @@
+void f(int a) { *(a ? &a : &a) = 1; }
+void g(int a) { a ? a : a = 1; }

@@ -1,0 +1,1 @@
+int a; [[nodiscard]] int f();

@@ -1,0 +1,2 @@
+void f(int a) { if (a) ; else ; }
+void g(int a) { else ; }

@@ -1,0 +1,1 @@
+enum class a : int { }; enum class b : int;

@@ -1,0 +1,2 @@
+enum a { b = 1 };
+ enum c { d = {1} };

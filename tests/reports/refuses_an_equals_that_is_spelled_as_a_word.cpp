@@ -1,0 +1,1 @@
+int b = 1 != 2; int c = 1 not_eq 2;

@@ -1,0 +1,2 @@
+void f(int a) { if (a) ; }
+void g(int a) { if a ; }

@@ -1,0 +1,1 @@
+int a; inline namespace b { }

@@ -1,0 +1,1 @@
+struct a { int b; }; struct c { int operator+(int d); };

@@ -1,0 +1,1 @@
+int b = 1 && 0; int c = 1 and 0;

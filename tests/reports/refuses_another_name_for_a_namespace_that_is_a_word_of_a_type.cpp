@@ -1,0 +1,1 @@
+int a; namespace b = int;

@@ -1,0 +1,1 @@
+using a = int; using int = a;

@@ -1,0 +1,1 @@
+constexpr inline int a = 1;

@@ -1,0 +1,1 @@
+static constexpr int a = 1;

@@ -1,0 +1,1 @@
+int a; auto b = 1;

@@ -1,0 +1,1 @@
+constexpr const signed a = 1;

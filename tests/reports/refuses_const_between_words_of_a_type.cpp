@@ -1,0 +1,1 @@
+unsigned int const a = 1; unsigned const int b = 1;

@@ -1,0 +1,1 @@
+struct a { explicit a(int) { } }; struct b { explicit int c() { return 1; } };

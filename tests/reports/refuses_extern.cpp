@@ -1,0 +1,1 @@
+int a; extern int b;

@@ -1,0 +1,2 @@
+int a = 1;
+int b = m::extract<int>(a); int c = m::extract<1>(a);

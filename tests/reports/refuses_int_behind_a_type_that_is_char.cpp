@@ -1,0 +1,1 @@
+unsigned char a; unsigned char int b;

@@ -1,0 +1,1 @@
+int f() noexcept; int g() noexcept noexcept;

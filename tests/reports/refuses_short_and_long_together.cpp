@@ -1,0 +1,1 @@
+short a; long b; short long c;

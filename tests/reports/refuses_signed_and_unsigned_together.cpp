@@ -1,0 +1,1 @@
+signed a; unsigned b; signed unsigned c;

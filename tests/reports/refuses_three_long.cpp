@@ -1,0 +1,1 @@
+long long a; long long long b;

@@ -1,0 +1,1 @@
+enum a { b, c, }; enum d { e,, f };

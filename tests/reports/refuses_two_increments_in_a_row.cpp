@@ -1,0 +1,2 @@
+void f(int a) { ++a; + +a; }
+void g(int a) { ++ ++a; }

@@ -1,0 +1,2 @@
+struct a { int b; };
+struct c { int d, e; };

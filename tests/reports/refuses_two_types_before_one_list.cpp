@@ -1,0 +1,1 @@
+int b = int{}; int c = int char{};

@@ -1,0 +1,2 @@
+namespace a { struct b { }; }
+a::b c; typename a::b d;

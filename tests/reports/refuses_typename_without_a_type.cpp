@@ -1,0 +1,1 @@
+typename [: a :] b; typename c;

@@ -1,0 +1,1 @@
+constexpr unsigned a = 1;

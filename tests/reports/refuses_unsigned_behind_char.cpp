@@ -1,0 +1,1 @@
+unsigned char a; char unsigned b;

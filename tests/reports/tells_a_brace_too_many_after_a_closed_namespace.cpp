@@ -1,0 +1,1 @@
+namespace a { int b; } } int c;

@@ -1,0 +1,4 @@
+namespace library {
+constexpr int version = 3;
+}
+}

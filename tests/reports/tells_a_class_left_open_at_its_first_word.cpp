@@ -1,0 +1,4 @@
+namespace n {
+ struct a {
+    int b;
+}

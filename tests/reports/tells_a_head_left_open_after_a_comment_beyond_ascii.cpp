@@ -1,0 +1,1 @@
+namespace a { int é; } namespace b { // é€😀

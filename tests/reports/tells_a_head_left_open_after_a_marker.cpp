@@ -1,0 +1,2 @@
+namespace a {
+# 9 "other.h" 2

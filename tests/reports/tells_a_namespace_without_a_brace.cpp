@@ -1,0 +1,3 @@
+int a;
+ namespace b
+int c;

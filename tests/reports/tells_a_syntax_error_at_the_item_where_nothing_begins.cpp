@@ -1,0 +1,5 @@
+
+
+  constexpr int a = 1;
+  constexpr int b = 2;
+  oops

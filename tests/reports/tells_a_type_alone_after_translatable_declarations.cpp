@@ -1,0 +1,2 @@
+constexpr int a = 1;
+constexpr int b = 2; int;

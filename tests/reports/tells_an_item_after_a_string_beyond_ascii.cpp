@@ -1,0 +1,1 @@
+const char* a = "é€😀"; int b c;

@@ -1,0 +1,4 @@
+#include <meta>
+
+#include <meta>
+int a; int b c;

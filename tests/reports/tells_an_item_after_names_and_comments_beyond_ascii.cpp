@@ -1,0 +1,1 @@
+int é; /* € 😀 */ char 名 = 'a'; int b c;

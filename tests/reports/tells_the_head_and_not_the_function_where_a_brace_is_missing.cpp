@@ -1,0 +1,5 @@
+namespace n {
+int f() {
+  if (1) {
+}
+}

@@ -1,0 +1,8 @@
+int a;
+  constexpr
+    int
+    b
+    =
+    1
+    2
+    ;

@@ -1,0 +1,3 @@
+namespace a {
+namespace b::c { int d; int e f; }
+}

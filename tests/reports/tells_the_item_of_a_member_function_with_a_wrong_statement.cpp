@@ -1,0 +1,5 @@
+namespace n {
+ class a {
+    int b() { return 1 }
+  };
+}

@@ -1,0 +1,5 @@
+struct a { int b; };
+struct c {
+    int d;
+    int e f;
+};

@@ -1,0 +1,1 @@
+namespace a { namespace b { namespace c::d { 

@@ -1,0 +1,26 @@
+# 0 "page.cpp"
+# 0 "<built-in>"
+# 0 "<command-line>"
+# 1 "/usr/include/stdc-predef.h" 1 3 4
+# 0 "<command-line>" 2
+# 1 "page.cpp"
+# 1 "sizes.h" 1
+
+
+
+
+
+
+
+constexpr int width = 80;
+constexpr int height = 25;
+# 2 "page.cpp" 2
+
+
+constexpr int cells = 80 * 25;
+
+constexpr int half = 80 / 2;
+
+
+
+constexpr int rest = 25 % 2 + 80 * 3 - 1;

@@ -1,0 +1,7 @@
+constexpr
+signed
+int
+a
+=
+1
+;
