@@ -1,6 +1,7 @@
 -- Runs that are all of a text, and words.
-use Rattle.std.proofs.Common.{◌≡◌, ◌↔◌, ℕ, suc, ◌+◌, ◌<◌, ◌≤◌, Bool, true, false, ◌&&◌, cond, ltb, arith, subst, List, [], ◌∷◌, drop, length, chars, encode_utf8_all, IsTrue, refl, sym, ap, ◌∙◌, true≢false}
-use Rattle.std.proofs.lemmas.Str.{encodes-chars, IsUtf8-from_is_utf8, is_utf8-from_IsUtf8}
+use Rattle.std.proofs.Common.{◌≡◌, ◌↔◌, ℕ, suc, ◌+◌, ◌<◌, ◌≤◌, Bool, true, false, ◌&&◌, cond, ltb, arith, subst, List, [], ◌∷◌, drop, length, All, IsAscii, chars, encode_utf8_all, IsTrue, refl, sym, ap, ◌∙◌, true≢false}
+use Rattle.std.proofs.lemmas.Str.Ascii.{All-from_ascii}
+use Rattle.std.proofs.lemmas.Str.{chars-IsAscii, encodes-chars, IsUtf8-from_is_utf8, is_utf8-from_IsUtf8}
 use Rattle.std.proofs.lemmas.Bool.Decides.{nat_tests}
 use Rattle.std.specs.Cmp.Lexicographic.{bytes_decides}
 use Rattle.std.specs.List.{prefix_len, list_all}
@@ -10,6 +11,7 @@ use Rattle.cxx_tokens.specs.Characters.{Characters}
 use Rattle.cxx_tokens.specs.Gaps.{is_empty}
 use Rattle.cxx_tokens.specs.Lex.{before_zero, is_identifier, is_short_and_composed, names_with_string}
 use Rattle.ucd_normal.specs.declared.forms.Form.TheVariants.{Nfc}
+use Rattle.unicode_normalization.proofs.FormsLemmas.{normalize-ascii}
 use Rattle.unicode_normalization.specs.Forms.{IsInForm, is_in_form}
 
 -- nothing is behind a run exactly where all belong to it
@@ -45,6 +47,13 @@ short_and_composed word utf8 h answer says =
     by false false says e = sym e
     by true false says e = sym ((bytes_decides _ _).1 (says.0 refl))
     by false true says e = absurd (true≢false (sym (says.1 ((bytes_decides _ _).0 e))))
+
+-- an ASCII text is in each normalization form
+pub ascii_composed : (word : Text) → IsUtf8 word → length word ≤ 255 → IsAscii word → true ≡ is_short_and_composed (chars word)
+ascii_composed word utf8 h ascii = short_and_composed word utf8 h true ((λ _. composed), (λ _. refl))
+  where
+    composed : IsInForm Nfc (chars word)
+    composed = normalize-ascii Nfc (chars word) (subst (λ cs. All (λ c. c < 128) cs) (sym (chars-IsAscii word ascii)) (All-from_ascii word ascii))
 
 -- ---- names of strings
 

@@ -1,4 +1,4 @@
--- A word stands among the words of its length.
+-- A word stands among the words of its key.
 use Rattle.std.proofs.Common.{◌≡◌, ℕ, zero, suc, ◌+◌, ◌<◌, ◌≤◌, Bool, true, false, ◌&&◌, cond, eqb, ltb, List, [], ◌∷◌, length, map, get_or, drop, Some, None, Bor, refl, sym, ap, subst, ◌∙◌, arith, true≢false}
 use Rattle.std.proofs.lemmas.Bool.{ltb-true}
 use Rattle.std.proofs.lemmas.List.{get_or-drop, drop-drop, length-map}
@@ -8,30 +8,30 @@ use Rattle.std.specs.List.{list_all, position_from}
 use Rattle.std.specs.Str.{bytes_eq}
 use Rattle.cxx_base.specs.Texts.{Text}
 use Rattle.cxx_tokens.specs.Lex.{reserved}
-use Rattle.cxx_tokens.specs.declared.word.TheConstants.{WORDS, BY_LENGTH}
+use Rattle.cxx_tokens.specs.declared.word.TheConstants.{WORDS, BY_KEY}
 use Rattle.cxx_tokens.specs.Tables.{words as listed}
-use Rattle.cxx_tokens.specs.Words.{AreBelow, first_spelled, word_at}
+use Rattle.cxx_tokens.specs.Words.{AreBelow, first_spelled, key, word_at}
 
--- the places of the texts of a length, of which the first stands at place i
-abbrev pub of_length : ℕ → ℕ → List Text → List ℕ
-of_length n i [] = []
-of_length n i (word ∷ words) = cond (eqb (length word) n) (i ∷ of_length n (i + 1) words) (of_length n (i + 1) words)
+-- the places of the texts of a key, of which the first stands at place i
+abbrev pub of_key : ℕ → ℕ → List Text → List ℕ
+of_key n i [] = []
+of_key n i (word ∷ words) = cond (eqb (key word) n) (i ∷ of_key n (i + 1) words) (of_key n (i + 1) words)
 
-of_length-below : (n most : ℕ) (i : ℕ) (words : List Text) → i + length words ≤ most → AreBelow most (of_length n i words)
-of_length-below n most i [] h = tt
-of_length-below n most i (word ∷ words) h = by (eqb (length word) n) (of_length-below n most (i + 1) words (omega (arith, h)))
+of_key-below : (n most : ℕ) (i : ℕ) (words : List Text) → i + length words ≤ most → AreBelow most (of_key n i words)
+of_key-below n most i [] h = tt
+of_key-below n most i (word ∷ words) h = by (eqb (key word) n) (of_key-below n most (i + 1) words (omega (arith, h)))
   where
-    by : (b : Bool) → AreBelow most (of_length n (i + 1) words) → AreBelow most (cond b (i ∷ of_length n (i + 1) words) (of_length n (i + 1) words))
+    by : (b : Bool) → AreBelow most (of_key n (i + 1) words) → AreBelow most (cond b (i ∷ of_key n (i + 1) words) (of_key n (i + 1) words))
     by true rest = (omega (arith, h), rest)
     by false rest = rest
 
-other_length : (word text : Text) → eqb (length word) (length text) ≡ false → bytes_eq word text ≡ false
-other_length word text h = by (bytes_eq word text) refl
+other_key : (word text : Text) → eqb (key word) (key text) ≡ false → bytes_eq word text ≡ false
+other_key word text h = by (bytes_eq word text) refl
   where
     by : (b : Bool) → bytes_eq word text ≡ b → b ≡ false
     by false e = refl
     by true e =
-        let same : eqb (length word) (length text) ≡ true = (Decides-eqb (length word) (length text)).1 (ap length ((bytes_decides word text).0 e)) in
+        let same : eqb (key word) (key text) ≡ true = (Decides-eqb (key word) (key text)).1 (ap key ((bytes_decides word text).0 e)) in
         absurd (cc (same, h))
 
 pub get_or-now : (refs : List (Bor (List ℕ))) (n : ℕ) → (get_or refs n (record { ref_ptr = (0, 0); now = [] })).now ≡ get_or (map (λ r. r.now) refs) n []
@@ -40,11 +40,11 @@ get_or-now (r ∷ refs) zero = refl
 get_or-now (r ∷ refs) (suc n) = get_or-now refs n
 
 module _ (all : List (Bor Text)) (text : Text) where
-  -- a search of all words is one of the words of its length
-  search_by_length : (i : ℕ) (words : List Text) → drop i (map (λ word. word.now) all) ≡ words
-      → position_from (λ word. bytes_eq word text) i words ≡ first_spelled all (of_length (length text) i words) text
-  search_by_length i [] h = refl
-  search_by_length i (word ∷ words) h = by (eqb (length word) (length text)) refl (search_by_length (i + 1) words later)
+  -- a search of all words is one of the words of its key
+  search_by_key : (i : ℕ) (words : List Text) → drop i (map (λ word. word.now) all) ≡ words
+      → position_from (λ word. bytes_eq word text) i words ≡ first_spelled all (of_key (key text) i words) text
+  search_by_key i [] h = refl
+  search_by_key i (word ∷ words) h = by (eqb (key word) (key text)) refl (search_by_key (i + 1) words later)
     where
       texts : List Text
       texts = map (λ word. word.now) all
@@ -57,27 +57,12 @@ module _ (all : List (Bor Text)) (text : Text) where
           let same : i ≡ i + 0 = omega arith in
           get_or-now all i ∙ ap (λ k. get_or texts k []) same ∙ sym (get_or-drop i texts 0 []) ∙ ap (λ (ws : List Text). get_or ws 0 []) h
 
-      by : (b : Bool) → eqb (length word) (length text) ≡ b
-          → position_from (λ word. bytes_eq word text) (i + 1) words ≡ first_spelled all (of_length (length text) (i + 1) words) text
+      by : (b : Bool) → eqb (key word) (key text) ≡ b
+          → position_from (λ word. bytes_eq word text) (i + 1) words ≡ first_spelled all (of_key (key text) (i + 1) words) text
           → cond (bytes_eq word text) (Some i) (position_from (λ word. bytes_eq word text) (i + 1) words)
-          ≡ first_spelled all (cond b (i ∷ of_length (length text) (i + 1) words) (of_length (length text) (i + 1) words)) text
+          ≡ first_spelled all (cond b (i ∷ of_key (key text) (i + 1) words) (of_key (key text) (i + 1) words)) text
       by true e rest = rw (here, rest) refl
-      by false e rest = rw (other_length word text e) rest
-
-apart : (a b c : ℕ) → a < b → b ≤ c → eqb a c ≡ false
-apart a b c h le = grind (arith, nat_tests)
-
--- no word has n characters or more
-none_so_long : (n i : ℕ) (words : List Text) → list_all (λ word. ltb (length word) n) words ≡ true → (m : ℕ) → n ≤ m → of_length m i words ≡ []
-none_so_long n i [] h m le = refl
-none_so_long n i (word ∷ words) h m le = by (ltb (length word) n) refl h (λ rest. none_so_long n (i + 1) words rest m le)
-  where
-    by : (b : Bool) → ltb (length word) n ≡ b → (b && list_all (λ word. ltb (length word) n) words) ≡ true
-        → (list_all (λ word. ltb (length word) n) words ≡ true → of_length m (i + 1) words ≡ []) → of_length m i (word ∷ words) ≡ []
-    by true e h rest =
-        let other : eqb (length word) m ≡ false = apart (length word) n m (ltb-true _ _ e) le in
-        rw other (rest h)
-    by false e h rest = absurd (true≢false (sym h))
+      by false e rest = rw (other_key word text e) rest
 
 -- a test that passes at each number below n
 abbrev pub all_below : ℕ → (ℕ → Bool) → Bool
@@ -102,37 +87,38 @@ unfolding listed
 words_are = refl
 
 abbrev tables : List (List ℕ)
-tables = map (λ places. places.now) BY_LENGTH
+tables = map (λ places. places.now) BY_KEY
 
--- the table has the places of the words of each length
-places_of_length : (n : ℕ) → n < 17 → get_or tables n [] ≡ of_length n 0 texts
-places_of_length n h = (bytes_decides _ _).0 (below_passes 17 (λ n. bytes_eq (get_or tables n []) (of_length n 0 texts)) refl n h)
+-- the table has the places of the words of each key
+places_of_key : (n : ℕ) → n < 64 → get_or tables n [] ≡ of_key n 0 texts
+places_of_key n h = (bytes_decides _ _).0 (below_passes 64 (λ n. bytes_eq (get_or tables n []) (of_key n 0 texts)) refl n h)
 
-module _ (words : List (Bor Text)) (lengths : List (Bor (List ℕ))) (text : Text)
+key_below : (text : Text) → key text < 64
+key_below text = omega arith
+
+module _ (words : List (Bor Text)) (lists : List (Bor (List ℕ))) (text : Text)
     (same_words : map (λ word. word.now) words ≡ map (λ word. word.now) WORDS)
-    (same_lengths : map (λ places. places.now) lengths ≡ map (λ places. places.now) BY_LENGTH) where
-  count : length lengths ≡ 17
-  count = sym (length-map lengths (λ places. places.now)) ∙ ap length same_lengths
+    (same_lists : map (λ places. places.now) lists ≡ map (λ places. places.now) BY_KEY) where
+  count : length lists ≡ 64
+  count = sym (length-map lists (λ places. places.now)) ∙ ap length same_lists
 
-  places : (n : ℕ) → n < 17 → (get_or lengths n (record { ref_ptr = (0, 0); now = [] })).now ≡ of_length n 0 texts
-  places n h = get_or-now lengths n ∙ ap (λ t. get_or t n []) same_lengths ∙ places_of_length n h
+  places : (get_or lists (key text) (record { ref_ptr = (0, 0); now = [] })).now ≡ of_key (key text) 0 texts
+  places = get_or-now lists (key text) ∙ ap (λ t. get_or t (key text) []) same_lists ∙ places_of_key (key text) (key_below text)
 
-  pub places_below : length text < length lengths
-      → AreBelow (length words) (get_or lengths (length text) (record { ref_ptr = (0, 0); now = [] })).now
-  places_below h =
+  pub places_below : AreBelow (length words) (get_or lists (key text) (record { ref_ptr = (0, 0); now = [] })).now
+  places_below =
       let many : 93 ≡ length words = sym (ap length same_words) ∙ length-map words (λ word. word.now) in
-      subst (AreBelow (length words)) (sym (places (length text) (omega (arith, h, count)))) (of_length-below (length text) (length words) 0 texts (omega (arith, many)))
+      subst (AreBelow (length words)) (sym places) (of_key-below (key text) (length words) 0 texts (omega (arith, many)))
 
-  searched : reserved text ≡ first_spelled words (of_length (length text) 0 texts) text
+  searched : reserved text ≡ first_spelled words (of_key (key text) 0 texts) text
   unfolding reserved
   searched =
       ap (position_from (λ word. bytes_eq word text) 0) words_are
-      ∙ search_by_length words text 0 texts same_words
+      ∙ search_by_key words text 0 texts same_words
 
-  pub found_by_length : length text < length lengths
-      → first_spelled words (get_or lengths (length text) (record { ref_ptr = (0, 0); now = [] })).now text ≡ reserved text
-  found_by_length h = ap (λ some. first_spelled words some text) (places (length text) (omega (arith, h, count))) ∙ sym searched
+  pub found_by_key : first_spelled words (get_or lists (key text) (record { ref_ptr = (0, 0); now = [] })).now text ≡ reserved text
+  found_by_key = ap (λ some. first_spelled words some text) places ∙ sym searched
 
-  pub none_longer : length lengths ≤ length text → None ≡ reserved text
-  none_longer h =
-      sym (ap (λ some. first_spelled words some text) (none_so_long 17 0 texts refl (length text) (omega (arith, h, count)))) ∙ sym searched
+  -- the table has each key
+  pub key_within : key text < length lists
+  key_within = let below = key_below text in omega (arith, below, count)

@@ -6,6 +6,7 @@ ghost use Rattle.cxx_tokens.specs.Characters as spec;
 use unicode_ident::{is_xid_continue, is_xid_start};
 
 /// White space within a line.
+#[inline]
 pub fn is_blank(c: char) -> bool
     ensures { result ≡ spec.is_blank c }
 {
@@ -25,7 +26,11 @@ pub fn is_space(c: char) -> bool
 pub fn begins_identifier(c: char) -> bool
     ensures { result ≡ spec.begins_identifier c }
 {
-    is_xid_start(c) || c == '_'
+    if c <= '\x7f' {
+        c.is_ascii_alphabetic() || c == '_'
+    } else {
+        is_xid_start(c)
+    }
 }
 
 /// Whether an identifier may go on with the character ([lex.name]).
@@ -33,5 +38,9 @@ pub fn begins_identifier(c: char) -> bool
 pub fn continues_identifier(c: char) -> bool
     ensures { result ≡ spec.continues_identifier c }
 {
-    is_xid_continue(c)
+    if c <= '\x7f' {
+        c.is_ascii_alphanumeric() || c == '_'
+    } else {
+        is_xid_continue(c)
+    }
 }

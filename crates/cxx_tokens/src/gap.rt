@@ -143,6 +143,7 @@ fn skipped_line(text: &str) -> Option<Cut<'_>>
 }
 
 /// The gap that begins at the front of a text, if one does. A line is skipped only from the first token of a line on.
+#[inline]
 pub fn gap_at(place: Place, is_first: bool, text: &str) -> Result<Option<Cut<'_>>, LexFault>
     ensures length { lengths result ≡ spec.gap_at place is_first (chars text.now) }
     ensures cut { IfOk result (λ gap. IfSome gap (λ cut. (0 < cut.length) × IsCut text.now cut)) }

@@ -10,8 +10,9 @@ ghost use Rattle.cxx_tokens.specs.Lex as spec;
 ghost use Rattle.cxx_tokens.specs.Literals as literals;
 ghost use Rattle.cxx_tokens.specs.Punctuators as punctuators;
 ghost use Rattle.cxx_tokens.specs.Turns.{Goes, lexed_on};
+ghost use Rattle.cxx_tokens.specs.declared.token.Token.{Token};
 
-use crate::character::{begins_identifier, continues_identifier};
+use crate::character::{begins_identifier, continues_identifier, is_space};
 use crate::escape::character_at;
 use crate::fault::LexFault;
 use crate::gap::gap_at;
@@ -19,7 +20,7 @@ use crate::integer::{Integer, integer_at};
 use crate::punctuator::punctuator_at;
 use crate::quoted::string_at;
 use crate::run::{Class, past, run};
-use crate::text::{Cut, after, end_of, front, split_first, without_byte_order_mark};
+use crate::text::{Cut, after, after_one, end_of, front, split_first, without_byte_order_mark};
 use crate::token::{Token, TokenKind, Tokens};
 use crate::word::reserved;
 use cxx_base::{MAX_IDENTIFIER, Names, Place, Span};
@@ -77,12 +78,15 @@ fn word(text: &str) -> Cut<'_>
     }
 }
 
-// Whether a word is short enough, and in normalization form C.
+// Whether a word is short enough, and in normalization form C, as all ASCII is.
 fn is_short_and_composed(alloc: Global, word: &str) -> Result<bool, AllocError>
     ensures { IfOk result (λ fit. fit ≡ spec.is_short_and_composed (chars word.now)) }
 {
     if word.len() > MAX_IDENTIFIER {
         return Ok(false);
+    }
+    if word.is_ascii() {
+        return Ok(true);
     }
     is_nfc(alloc, word)
 }
@@ -337,6 +341,26 @@ fn turn<'a>(
     }
 }
 
+// Passes the white space at the front of a text, each character a gap, without the tries for other gaps and tokens.
+fn past_space<'a>(at: &mut Position, text: &'a str) -> &'a str
+    requires line { at.old.place.line + length (chars text.now) < 2 ^ 32 }
+    requires column { at.old.place.column + length (chars text.now) < 2 ^ 32 }
+    ensures goes { (list : List Token) (names : List Text) → lexed_on list at.old names (chars text.now) ≡ lexed_on list at.new names (chars result.now) }
+    ensures left { length (chars result.now) ≤ length (chars text.now) }
+    ensures line { at.new.place.line + length (chars result.now) ≤ at.old.place.line + length (chars text.now) }
+    ensures column { at.new.place.column + length (chars result.now) ≤ at.old.place.column + length (chars text.now) }
+{
+    let mut rest = text;
+    while let Some((c, behind)) = split_first(rest) {
+        if !is_space(c) {
+            break;
+        }
+        at.place = after_one(at.place, c);
+        rest = behind;
+    }
+    rest
+}
+
 // An injected class may need these names, and no source has to write them.
 fn number_members(names: &mut Names) -> Result<(), LexFault>
     requires { length names.old + 2 ≤ 2 ^ 24 }
@@ -365,7 +389,7 @@ fn tokens_of(alloc: Global, names: &mut Names, text: &str) -> Result<Tokens, Lex
     let mut rest = text;
     while !rest.is_empty() {
         match turn(alloc, names, &mut list, &mut at, rest) {
-            Ok(behind) => rest = behind,
+            Ok(behind) => rest = past_space(&mut at, behind),
             Err(fault) => return Err(fault),
         }
     }

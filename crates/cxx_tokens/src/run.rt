@@ -43,6 +43,7 @@ fn is_in(class: Class, c: char) -> bool
 }
 
 /// The longest run of characters of the class at the front of a text, of at most so many.
+#[inline(always)]
 pub fn run_of_at_most<'a>(most: usize, class: Class, text: &'a str) -> Cut<'a>
     ensures length { result.length ≡ min most (prefix_len (class_test class) (chars text.now)) }
     ensures cut { IsCut text.now result }
@@ -62,6 +63,7 @@ pub fn run_of_at_most<'a>(most: usize, class: Class, text: &'a str) -> Cut<'a>
 }
 
 /// The longest run of characters of the class at the front of a text.
+#[inline(always)]
 pub fn run<'a>(class: Class, text: &'a str) -> Cut<'a>
     ensures length { result.length ≡ prefix_len (class_test class) (chars text.now) }
     ensures cut { IsCut text.now result }

@@ -48,6 +48,7 @@ pub fn first_is(character: char, text: &str) -> bool
 }
 
 /// What follows these ASCII characters, where a text begins with them.
+#[inline(always)]
 pub fn strip<'a>(front: &[u8], text: &'a str) -> Option<&'a str>
     ensures begins { is_some result ≡ spec.begins_with front.now (chars text.now) }
     ensures rest { IfSome result (λ rest. chars rest.now ≡ drop (length front.now) (chars text.now)) }
@@ -77,9 +78,9 @@ pub fn front<'a>(text: &'a str, count: usize, rest: &str) -> &'a str
     &text[..text.len() - rest.len()]
 }
 
-// The place after a character.
+/// The place after a character.
 #[inline]
-fn after_one(place: Place, character: char) -> Place
+pub fn after_one(place: Place, character: char) -> Place
     requires line { place.line + 1 < 2 ^ 32 }
     requires column { place.column + 1 < 2 ^ 32 }
     ensures { result ≡ spec.after place character }
@@ -98,6 +99,7 @@ fn after_one(place: Place, character: char) -> Place
 }
 
 /// The place after the first characters of a text. A line feed begins a line.
+#[inline]
 pub fn after(place: Place, text: &str, count: usize) -> Place
     requires within { count ≤ length (chars text.now) }
     requires line { place.line + count < 2 ^ 32 }

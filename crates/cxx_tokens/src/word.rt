@@ -1,8 +1,9 @@
 //! Words that are never identifiers ([lex.key], [lex.operators]).
 
-ghost use Rattle.std.specs.Prelude.{◌≡◌, length, map};
+ghost use Rattle.std.specs.Prelude.{◌≡◌, length, map, bytes_eq};
 ghost use Rattle.cxx_tokens.specs.Lex.{reserved};
-ghost use Rattle.cxx_tokens.specs.declared.word.TheConstants.{WORDS, BY_LENGTH};
+ghost use Rattle.cxx_tokens.specs.declared.word.TheConstants.{WORDS, BY_KEY};
+ghost use Rattle.cxx_tokens.specs.Words as spec;
 ghost use Rattle.cxx_tokens.specs.Words.{AreBelow, first_spelled};
 
 /// The keywords, and then the alternative spellings of operators.
@@ -102,45 +103,101 @@ pub const WORDS: [&[u8]; 93] = [
     b"xor_eq",
 ];
 
-// The places of the words of each length, from 0 on.
-const BY_LENGTH: [&[u32]; 17] = [
+// The places of the words of each key, from 0 on.
+const BY_KEY: [&[u32]; 64] = [
+    &[37, 48],
     &[],
+    &[50],
+    &[42],
     &[],
-    &[27, 40, 89],
-    &[2, 37, 42, 46, 70, 82, 87, 91],
-    &[3, 4, 6, 8, 30, 31, 39, 43, 66, 69, 78],
-    &[5, 7, 12, 14, 35, 36, 57, 68, 74, 76, 81, 85, 86, 90],
-    &[
-        26, 28, 33, 34, 38, 41, 52, 56, 58, 59, 60, 63, 64, 72, 83, 84, 88, 92,
-    ],
-    &[0, 1, 9, 13, 25, 44, 48, 50, 71, 77, 80],
-    &[10, 11, 19, 21, 23, 24, 32, 47, 49, 53, 55, 65, 73, 75, 79],
-    &[16, 17, 18, 22, 45, 51],
+    &[90],
+    &[71],
+    &[],
+    &[46, 77, 87],
+    &[57, 80],
+    &[68],
+    &[74, 76],
+    &[29],
+    &[81],
+    &[70],
     &[15],
-    &[62],
-    &[29, 67],
-    &[61],
     &[],
-    &[20],
-    &[54],
+    &[],
+    &[54, 91],
+    &[10, 11, 19, 21, 23],
+    &[24],
+    &[32, 83],
+    &[84],
+    &[],
+    &[26, 28],
+    &[3, 33, 34],
+    &[4, 38],
+    &[6, 8],
+    &[67],
+    &[30, 31, 41],
+    &[47],
+    &[39, 49],
+    &[27],
+    &[],
+    &[53, 55, 88],
+    &[],
+    &[43, 52, 65, 73],
+    &[20, 40, 75],
+    &[56, 79],
+    &[58, 59, 60, 63, 64],
+    &[72],
+    &[],
+    &[],
+    &[89],
+    &[66, 69, 92],
+    &[],
+    &[78],
+    &[],
+    &[],
+    &[16, 17, 18, 22],
+    &[],
+    &[0, 1],
+    &[],
+    &[9, 13],
+    &[25],
+    &[],
+    &[5, 85],
+    &[7, 12, 14, 61, 86],
+    &[],
+    &[2, 82],
+    &[35, 36, 45],
+    &[62],
+    &[51],
+    &[44],
 ];
 
 /// The number of a word: its place in the list.
 pub fn reserved(text: &[u8]) -> Option<u32>
     ensures { result ≡ reserved text.now }
 {
-    place_by_length(&WORDS, &BY_LENGTH, text)
+    place_by_key(&WORDS, &BY_KEY, text)
 }
 
-// Tries only the words that have the length of the text.
-fn place_by_length(words: &[&[u8]], lengths: &[&[u32]], text: &[u8]) -> Option<u32>
+// A number below 64 by which most words differ: it mixes the first byte and the length.
+#[inline]
+fn key(text: &[u8]) -> usize
+    ensures { result ≡ spec.key text.now }
+{
+    match text {
+        [first, ..] => (*first as usize + 30 * (text.len() % 64)) % 64,
+        [] => 0,
+    }
+}
+
+// Tries only the words that have the key of the text.
+fn place_by_key(words: &[&[u8]], places: &[&[u32]], text: &[u8]) -> Option<u32>
     requires words { map (λ word. word.now) words.now ≡ map (λ word. word.now) WORDS }
-    requires lengths { map (λ places. places.now) lengths.now ≡ map (λ places. places.now) BY_LENGTH }
+    requires places { map (λ some. some.now) places.now ≡ map (λ some. some.now) BY_KEY }
     ensures { result ≡ reserved text.now }
 {
-    let length = text.len();
-    if length < lengths.len() {
-        first_of(words, lengths[length], text)
+    let key = key(text);
+    if key < places.len() {
+        first_of(words, places[key], text)
     } else {
         None
     }
@@ -152,10 +209,25 @@ fn first_of(words: &[&[u8]], mut numbers: &[u32], text: &[u8]) -> Option<u32>
     ensures { result ≡ first_spelled words.now numbers.entry.now text.now }
 {
     while let [number, rest @ ..] = numbers {
-        if words[*number as usize] == text {
+        if is_word(words[*number as usize], text) {
             return Some(*number);
         }
         numbers = rest;
     }
     None
+}
+
+// Whether a text is the word. The first bytes tell most apart, so the others are read only behind equal ones.
+#[inline]
+fn is_word(word: &[u8], text: &[u8]) -> bool
+    ensures { result ≡ bytes_eq word.now text.now }
+{
+    if let [first, ..] = word {
+        if let [other, ..] = text {
+            if *first != *other {
+                return false;
+            }
+        }
+    }
+    word == text
 }
