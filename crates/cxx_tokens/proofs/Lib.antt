@@ -6,6 +6,7 @@ pub mod Fronts
 pub mod Gaps
 pub mod IntegerFronts
 pub mod Integers
+pub mod Lines
 pub mod Literals
 pub mod MarkFronts
 pub mod Munch

@@ -1,6 +1,6 @@
 //! From bytes to tokens.
 
-ghost use Rattle.std.specs.Prelude.{◌≡◌, ℕ, List, ◌+◌, ◌≤◌, ◌<◌, ◌^◌, min, chars, length, take, IfOk, IfErr, OnOk};
+ghost use Rattle.std.specs.Prelude.{◌≡◌, ℕ, true, List, ◌+◌, ◌≤◌, ◌<◌, ◌^◌, min, chars, length, take, IfOk, IfErr, OnOk};
 ghost use Rattle.std.specs.Str.{IsUtf8};
 ghost use Rattle.cxx_base.specs.Texts.{Text, with_texts};
 ghost use Rattle.cxx_tokens.specs.Characters as characters;
@@ -100,6 +100,7 @@ fn word_at<'a>(
 ) -> Result<FoundToken<'a>, LexFault>
     requires room { length names.old < 2 ^ 24 }
     ensures found { GivesToken result names.new (spec.word_token place names.old (take (spec.word_len (chars text.now)) (chars text.now))) }
+    ensures length { IfOk result (λ found. found.cut.length ≡ spec.word_len (chars text.now)) }
     ensures few { length names.new ≤ length names.old + 1 }
     ensures kept { Keeps names.old names.new }
     ensures cut { IfOk result (λ found. IsCut text.now found.cut) }
@@ -266,6 +267,7 @@ fn token_at<'a>(
 ) -> Result<FoundToken<'a>, LexFault>
     requires room { length names.old < 2 ^ 24 }
     ensures found { GivesToken result names.new (spec.token_at place names.old (chars text.now)) }
+    ensures word { characters.first_is characters.begins_identifier (chars text.now) ≡ true → IfOk result (λ found. found.cut.length ≡ spec.word_len (chars text.now)) }
     ensures few { length names.new ≤ length names.old + 1 }
     ensures kept { Keeps names.old names.new }
     ensures cut { IfOk result (λ found. (0 < found.cut.length) × IsCut text.now found.cut) }
@@ -285,6 +287,25 @@ fn token_at<'a>(
                 punctuator_token_at(place, text)
             }
         }
+    }
+}
+
+// The place after a token. A word holds no line feed, so its characters are not read again.
+fn after_token(place: Place, text: &str, count: usize) -> Place
+    requires within { count ≤ length (chars text.now) }
+    requires line { place.line + count < 2 ^ 32 }
+    requires column { place.column + count < 2 ^ 32 }
+    requires word { characters.first_is characters.begins_identifier (chars text.now) ≡ true → count ≡ spec.word_len (chars text.now) }
+    ensures place { result ≡ characters.after_all place (take count (chars text.now)) }
+    ensures line { result.line ≤ place.line + count }
+    ensures column { result.column ≤ place.column + count }
+{
+    match split_first(text) {
+        Some((c, _)) if begins_identifier(c) => Place {
+            line: place.line,
+            column: place.column + count as u32,
+        },
+        _ => after(place, text, count),
     }
 }
 
@@ -332,7 +353,7 @@ fn turn<'a>(
             Ok(found) => {
                 list.push(token_from(found.kind, at.place, list.len() as u32))?;
                 *at = Position {
-                    place: after(at.place, text, found.cut.length),
+                    place: after_token(at.place, text, found.cut.length),
                     last: at.place.line,
                 };
                 Ok(found.cut.rest)

@@ -29,6 +29,6 @@ returns-in_ok-push-in-Ok-clause-goes c =
     let same = ap (token_from c.in-Ok.found.kind place) (sym c.len.ensures) ∙ sym c.token_from.ensures in
     token_turn c.args.list.now c.args.at.now c.args.names.now (chars c.args.text.now) found (sym c.in-Ok-None.ensures.length ∙ ap (λ (gap : Option Cut). Ok (length_of gap)) c.in-Ok-None.field-0-is)
     c.in-Ok.ensures.found c.in-Ok.ensures.cut.0 c.in-Ok.ensures.cut.1.within
-    ∙ ap (λ after. lexed_on (c.args.list.now ++ token_from found.kind place (length c.args.list.now) ∷ []) (record { place = after; last = place.line }) c.token_at.new.names rest) (sym c.after.ensures.place)
-    ∙ ap (λ list. lexed_on list (record { place = c.after.result; last = place.line }) c.token_at.new.names rest) (ap (λ token. c.args.list.now ++ token ∷ []) same ∙ sym c.in_ok-push-in-Ok.ensures.ok)
-    ∙ ap (lexed_on c.push.new.self (record { place = c.after.result; last = place.line }) c.token_at.new.names) (sym c.in-Ok.ensures.cut.1.rest)
+    ∙ ap (λ after. lexed_on (c.args.list.now ++ token_from found.kind place (length c.args.list.now) ∷ []) (record { place = after; last = place.line }) c.token_at.new.names rest) (sym c.after_token.ensures.place)
+    ∙ ap (λ list. lexed_on list (record { place = c.after_token.result; last = place.line }) c.token_at.new.names rest) (ap (λ token. c.args.list.now ++ token ∷ []) same ∙ sym c.in_ok-push-in-Ok.ensures.ok)
+    ∙ ap (lexed_on c.push.new.self (record { place = c.after_token.result; last = place.line }) c.token_at.new.names) (sym c.in-Ok.ensures.cut.1.rest)
