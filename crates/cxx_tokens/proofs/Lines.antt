@@ -1,5 +1,5 @@
 -- Words stand on one line.
-use Rattle.std.proofs.Common.{◌≡◌, ℕ, suc, ◌+◌, Bool, true, false, ◌&&◌, not, eqb, [], ◌∷◌, length, take, refl, sym, ap, ◌∙◌, arith, le_refl, true≢false}
+use Rattle.std.proofs.Common.{◌≡◌, ℕ, suc, ◌+◌, Bool, true, false, eqb, [], ◌∷◌, length, take, refl, sym, ap, ◌∙◌, arith, le_refl, true≢false}
 use Rattle.std.proofs.lemmas.Bool.{and_parts, eqb-true}
 use Rattle.std.proofs.lemmas.List.{length-take-le}
 use Rattle.std.proofs.lemmas.List.Sums.{prefix_len-le-length}

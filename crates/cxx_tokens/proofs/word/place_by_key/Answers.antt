@@ -1,4 +1,4 @@
-use Rattle.std.proofs.Common.{◌≡◌, ◌<◌, ◌≤◌, ◌∙◌, [], length, get_or, sym, subst, arith}
+use Rattle.std.proofs.Common.{◌≡◌, ◌∙◌, [], length, get_or, sym, subst, arith}
 use Rattle.cxx_tokens.specs.Lex.{reserved}
 use Rattle.cxx_tokens.specs.Words.{AreBelow, first_spelled}
 use Rattle.cxx_tokens.proofs.Words.{places_below, found_by_key, key_within}
