@@ -16,6 +16,6 @@ abbrev pub first_spelled : List (Bor Text) → List ℕ → Text → Option ℕ
 first_spelled words [] text = None
 first_spelled words (place ∷ places) text = if bytes_eq (word_at words place) text then Some place else first_spelled words places text
 
--- a number below 64 by which most words differ
+-- a number below 64 that leaves few words to try
 abbrev pub key : Text → ℕ
 key text = (get_or text 0 0 + 30 * (length text % 64)) % 64

@@ -178,7 +178,7 @@ pub fn reserved(text: &[u8]) -> Option<u32>
     place_by_key(&WORDS, &BY_KEY, text)
 }
 
-// A number below 64 by which most words differ: it mixes the first byte and the length.
+// A number below 64 that leaves few words to try: it mixes the first byte and the length.
 #[inline]
 fn key(text: &[u8]) -> usize
     ensures { result ≡ spec.key text.now }
