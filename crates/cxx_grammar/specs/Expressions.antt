@@ -35,7 +35,7 @@ module _ (tokens : Tokens) (deeper : Rules) where
     x ← operation n operand
     pure (found ++ x ∷ [])
 
-  -- chains of the operators of so many lines, from the one that binds most; of all ten it is `or`
+  -- chains of the operators of so many lines, from the one that binds most; all ten are `chain` of the grammar
   unfoldable pub chain : ℕ → Rule Expr
   chain zero = unary tokens deeper
   chain (suc n) = node tokens (do
@@ -52,7 +52,7 @@ module _ (tokens : Tokens) (deeper : Rules) where
     on_false ← deeper.expr
     pure (record { on_true = on_true; on_false = on_false })
 
-  -- expr : or ("?" expr ":" expr)?
+  -- expr : chain ("?" expr ":" expr)?
   unfoldable pub expr : Rule Expr
   expr = node tokens (do
     x ← chain 10

@@ -21,7 +21,7 @@ is_part n None = false
 
 -- whether a name has at least two parts and the last is `extract`
 abbrev pub is_extract : NameTree → Bool
-is_extract n = nat_le 2 (length n.parts) && is_part EXTRACT (slice_get n.parts (length n.parts - 1))
+is_extract n = nat_le 1 (length n.more) && is_part EXTRACT (slice_get n.more (length n.more - 1))
 
 module _ (tokens : Tokens) where
   unfoldable pub named : ℕ → Rule (Unit {0})
@@ -49,8 +49,8 @@ module _ (tokens : Tokens) where
   any_name = node tokens (do
     rooted ← present (punctuator tokens SCOPE)
     first ← identifier tokens
-    all ← parts (first ∷ [])
-    pure (λ s. record { span = s; rooted = rooted; parts = all }))
+    more ← parts []
+    pure (λ s. record { span = s; rooted = rooted; first = first; more = more }))
 
   -- name : "::"? ID ("::" ID)*
   unfoldable pub name : Rule NameTree

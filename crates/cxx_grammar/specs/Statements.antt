@@ -15,6 +15,7 @@ use Rattle.cxx_tree.specs.declared.stmt.AssignTree.TheVariants as assign-of
 use Rattle.cxx_tree.specs.declared.stmt.StepOp.{StepOp}
 use Rattle.cxx_tree.specs.declared.stmt.StepOp.TheVariants as step-of
 use Rattle.cxx_tree.specs.declared.stmt.ForInit.{ForInit}
+use Rattle.cxx_tree.specs.declared.stmt.ForRange.{ForRange}
 use Rattle.cxx_tree.specs.declared.stmt.ForInit.TheVariants as for-init-of
 use Rattle.cxx_tree.specs.declared.stmt.ForStep.{ForStep}
 use Rattle.cxx_tree.specs.declared.stmt.ForStep.TheVariants as for-step-of
@@ -30,7 +31,6 @@ use Rattle.cxx_tokens.specs.declared.keyword.TheConstants as keyword
 use Rattle.cxx_reading.specs.Any.{given, any_punctuator}
 use Rattle.cxx_reading.specs.Reading.{End, Tree, No, Nothing, Rule, ◌>>=◌, ◌>>◌, ◌<|>◌, pure, too_deep, guard, present, optional, if_any, punctuator, word, identifier, text, sees_punctuator, sees_word, sees_identifier, left, node}
 use Rattle.cxx_grammar.specs.Sequences.{many}
-use Rattle.cxx_grammar.specs.declared.parts.Range.{Range}
 use Rattle.cxx_grammar.specs.Names.{name, vector_head}
 use Rattle.cxx_grammar.specs.Fundamentals.{fund}
 use Rattle.cxx_grammar.specs.Lists.{arg}
@@ -367,10 +367,10 @@ module _ (tokens : Tokens) where
         step ← optional for_step
         p mark.RIGHT_PAREN
         turn ← inner.sub true
-        pure (λ s. stmt-of.For s first condition step turn))
+        pure (λ s. stmt-of.For s (record { first = first; condition = condition; step = step }) turn))
 
       -- type ID ":" expr, which stands nowhere else than where a declaration begins
-      unfoldable pub range : Rule Range
+      unfoldable pub range : Rule ForRange
       range = locally (do
         of_type ← (read tokens within).type_tree
         n ← identifier tokens
@@ -386,7 +386,7 @@ module _ (tokens : Tokens) where
         r ← range
         p mark.RIGHT_PAREN
         turn ← inner.sub true
-        pure (λ s. stmt-of.RangeFor s r.of_type r.name r.over turn))
+        pure (λ s. stmt-of.RangeFor s r turn))
 
       -- stmt, but for its braces
       unfoldable pub other_stmt : Rule Stmt

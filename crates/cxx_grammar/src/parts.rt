@@ -1,6 +1,6 @@
 //! Parts of forms that are no trees.
 
-use cxx_tree::{Expr, Identifier, TypeTree};
+use cxx_tree::{Expr, TypeTree};
 
 /// The second and the third operand of `?:`.
 #[derive(Drop)]
@@ -14,12 +14,4 @@ pub struct Arms {
 pub enum SizedOperand {
     Type(TypeTree),
     Expr(Expr),
-}
-
-/// What stands in the parentheses of a `for` over a range ([stmt.ranged]).
-#[derive(Drop)]
-pub struct Range {
-    pub of_type: TypeTree,
-    pub name: Identifier,
-    pub over: Expr,
 }

@@ -4,6 +4,7 @@
 mod any;
 mod fault;
 mod laws;
+mod list;
 mod longest;
 mod seen;
 mod step;
@@ -13,6 +14,7 @@ pub use fault::Fault;
 pub use laws::{
     choices_take_the_longest, missing_parts_are_no_fault, repetitions_end_by_themselves,
 };
+pub use list::{push, single};
 pub use longest::longer;
 pub use seen::{Seen, kind_ahead, kind_at, sees, sees_identifier, sees_word};
 pub use step::{

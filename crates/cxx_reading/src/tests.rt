@@ -3,14 +3,15 @@ use crate::Fault::{Deep, Memory, Syntax};
 use crate::{
     Fault, Seen, any_punctuator, any_word, character, choices_take_the_longest, eat, eat_word,
     expect, expect_word, identifier, integer, kind_ahead, kind_at, left, longer,
-    missing_parts_are_no_fault, repetitions_end_by_themselves, sees, sees_identifier, sees_word,
-    span, text,
+    missing_parts_are_no_fault, push, repetitions_end_by_themselves, sees, sees_identifier,
+    sees_word, single, span, text,
 };
 use cxx_base::{Name, Names, Place, Span};
 use cxx_tokens::keyword::{CONSTEXPR, INT};
 use cxx_tokens::mark::{PLUS, SEMICOLON};
 use cxx_tokens::{Tokens, tokens};
 use cxx_tree::{Identifier, IntegerLiteral};
+use sqlite_items::Items;
 use std::alloc::Global;
 use std::test::Fail;
 
@@ -248,6 +249,24 @@ fn laws_and_faults(rt: HostRuntime) -> Result<(), Fail> {
     assert_eq!(rt;
         shown.as_str(),
         "nothing begins there, the nesting is too deep, no memory was found"
+    );
+    Ok(())
+}
+
+#[test]
+fn lists_grow_at_their_end(rt: HostRuntime) -> Result<(), Fail> {
+    let alloc = rt.alloc();
+    let mut found = single(alloc, 7_u32)?;
+    assert_eq!(rt; found.as_slice(), [7].as_slice(), "one part");
+    push(alloc, &mut found, 8)?;
+    push(alloc, &mut found, 9)?;
+    assert_eq!(rt; found.as_slice(), [7, 8, 9].as_slice(), "three parts");
+    let mut other = Items::new(alloc);
+    push(alloc, &mut other, true)?;
+    assert_eq!(rt;
+        other.as_slice(),
+        [true].as_slice(),
+        "the first part of an empty list"
     );
     Ok(())
 }

@@ -36,7 +36,7 @@ identifiers [] = tt
 identifiers (x ∷ xs) = (refl, identifiers xs)
 
 pub name_itself : (x : NameTree) → SameName x x
-name_itself x = (refl, identifiers x.parts)
+name_itself x = (refl, refl, identifiers x.more)
 
 mutual
   pub expr_itself : (x : Expr) → Same x x

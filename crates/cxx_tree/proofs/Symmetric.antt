@@ -38,7 +38,7 @@ identifiers (x ∷ xs) [] h = h
 identifiers (x ∷ xs) (y ∷ ys) h = (sym h.0, identifiers xs ys h.1)
 
 pub name_back : (x y : NameTree) → SameName x y → SameName y x
-name_back x y h = (sym h.0, identifiers x.parts y.parts h.1)
+name_back x y h = (sym h.0, sym h.1, identifiers x.more y.more h.2)
 
 mutual
   pub expr_back : (x y : Expr) → Same x y → Same y x

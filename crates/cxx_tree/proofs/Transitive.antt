@@ -39,7 +39,7 @@ identifiers (x ∷ xs) (y ∷ ys) [] h k = absurd k
 identifiers (x ∷ xs) (y ∷ ys) (z ∷ zs) h k = (h.0 ∙ k.0, identifiers xs ys zs h.1 k.1)
 
 pub name_on : (x y z : NameTree) → SameName x y → SameName y z → SameName x z
-name_on x y z h k = (h.0 ∙ k.0, identifiers x.parts y.parts z.parts h.1 k.1)
+name_on x y z h k = (h.0 ∙ k.0, h.1 ∙ k.1, identifiers x.more y.more z.more h.2 k.2)
 
 mutual
   pub expr_on : (x y z : Expr) → Same x y → Same y z → Same x z

@@ -9,4 +9,4 @@ SameIdentifier x y = x.name ≡ y.name
 
 -- `::` begins both or neither, and their parts are the same.
 abbrev pub SameName : NameTree → NameTree → Type 0
-SameName x y = (x.rooted ≡ y.rooted) × AreSame SameIdentifier x.parts y.parts
+SameName x y = (x.rooted ≡ y.rooted) × SameIdentifier x.first y.first × AreSame SameIdentifier x.more y.more

@@ -4,7 +4,7 @@ use crate::expr::{ArgTrees, BracedTree, Expr, SpliceTree, TypeTree};
 use crate::identifier::{Identifier, NameTree};
 use crate::stmt::{BodyTree, BoundTree, InitTree};
 use cxx_base::{Bytes, Span};
-use sqlite_items::Items;
+use sqlite_items::{Boxed, Items};
 
 /// A source text ([basic.link]).
 #[derive(Drop)]
@@ -19,7 +19,7 @@ pub enum Item {
     NamespaceHead(Span, Items<Identifier>),
     /// `}`
     Close(Span),
-    Decl(Decl),
+    Decl(Boxed<Decl>),
     /// `;`
     Empty(Span),
 }
@@ -63,7 +63,7 @@ pub struct AliasTree {
 /// What an alias stands for.
 #[derive(Drop)]
 pub enum AliasedTree {
-    Type(TypeTree),
+    Type(Boxed<TypeTree>),
     Splice(SpliceTree),
 }
 
@@ -71,7 +71,7 @@ pub enum AliasedTree {
 #[derive(Drop)]
 pub struct AssertTree {
     pub span: Span,
-    pub condition: Expr,
+    pub condition: Boxed<Expr>,
     pub message: Option<Bytes>,
 }
 
@@ -103,10 +103,10 @@ pub enum Evaluated {
 pub struct VariableTree {
     pub span: Span,
     pub specifiers: Specifiers,
-    pub of_type: TypeTree,
+    pub of_type: Boxed<TypeTree>,
     pub name: Identifier,
     pub bounds: Items<BoundTree>,
-    pub init: Option<InitTree>,
+    pub init: Option<Boxed<InitTree>>,
 }
 
 /// A function ([dcl.fct]), or a member function. Without a body it is declared alone. Only a member function is const.
@@ -114,12 +114,12 @@ pub struct VariableTree {
 pub struct FunctionTree {
     pub span: Span,
     pub specifiers: Specifiers,
-    pub returned: TypeTree,
+    pub returned: Boxed<TypeTree>,
     pub name: Identifier,
     pub parameters: Items<ParameterTree>,
     pub is_const: bool,
     pub is_noexcept: bool,
-    pub body: Option<BodyTree>,
+    pub body: Option<Boxed<BodyTree>>,
 }
 
 /// A parameter, which need not have a name.
@@ -136,7 +136,7 @@ pub struct EnumTree {
     pub span: Span,
     pub key: Option<ClassKey>,
     pub name: Identifier,
-    pub underlying: Option<TypeTree>,
+    pub underlying: Option<Boxed<TypeTree>>,
     pub enumerators: Items<EnumeratorTree>,
 }
 
@@ -188,7 +188,7 @@ pub enum BasedTree {
     Typename(SpliceTree),
 }
 
-/// What stands in the braces of a class ([class.mem]).
+/// What stands in the braces of a class ([class.mem]). As of a statement, the large parts are boxed within.
 #[cycle(class)]
 #[derive(Drop)]
 pub enum Member {
@@ -216,7 +216,7 @@ pub struct ConstructorTree {
     pub parameters: Items<ParameterTree>,
     pub is_noexcept: bool,
     pub inits: Items<MemberInit>,
-    pub body: BodyTree,
+    pub body: Boxed<BodyTree>,
 }
 
 /// A member initializer ([class.base.init]).

@@ -10,10 +10,12 @@ pub struct Identifier {
     pub name: Name,
 }
 
-/// A name ([expr.prim.id]): whether `::` begins it, and its parts, of which there is at least one.
+/// A name ([expr.prim.id]): whether `::` begins it, its first part, and the parts behind `::`. Most names have no more than the first,
+/// and then no list.
 #[derive(Drop)]
 pub struct NameTree {
     pub span: Span,
     pub rooted: bool,
-    pub parts: Items<Identifier>,
+    pub first: Identifier,
+    pub more: Items<Identifier>,
 }

@@ -32,7 +32,8 @@ pub use laws::{parts_decide, same_is_an_equivalence};
 pub use literal::IntegerLiteral;
 pub use operator::{BinaryOp, UnaryOp};
 pub use stmt::{
-    AssignTree, BodyTree, BoundTree, ForInit, ForStep, InitTree, LocalTree, Returned, StepOp, Stmt,
+    AssignTree, BodyTree, BoundTree, ForHead, ForInit, ForRange, ForStep, InitTree, LocalTree,
+    Returned, StepOp, Stmt,
 };
 pub use types::Fund;
 

@@ -6,7 +6,8 @@ use crate::identifier::Identifier;
 use cxx_base::{IntOp, Span};
 use sqlite_items::{Boxed, Items};
 
-/// A statement ([stmt]).
+/// A statement ([stmt]). The large parts of its forms are boxed in the types of these forms, so that a short statement is not
+/// as large as the largest.
 #[cycle(statement)]
 #[derive(Drop)]
 pub enum Stmt {
@@ -21,10 +22,10 @@ pub enum Stmt {
     /// The condition, the statement where it holds, and the one behind `else`.
     If(Span, Expr, Boxed<Stmt>, Option<Boxed<Stmt>>),
     While(Span, Expr, Boxed<Stmt>),
-    /// The first statement of the head, the condition and the step, and the statement that is repeated.
-    For(Span, ForInit, Option<Expr>, Option<ForStep>, Boxed<Stmt>),
+    /// The head, and the statement that is repeated.
+    For(Span, ForHead, Boxed<Stmt>),
     /// `for ( type identifier : expr ) stmt`
-    RangeFor(Span, TypeTree, Identifier, Expr, Boxed<Stmt>),
+    RangeFor(Span, ForRange, Boxed<Stmt>),
     Return(Span, Option<Returned>),
     Break(Span),
     Continue(Span),
@@ -42,6 +43,22 @@ pub enum BodyTree {
 pub enum Returned {
     Expr(Expr),
     Braced(BracedTree),
+}
+
+/// The head of a `for` ([stmt.for]): its first statement, its condition, and what it does after each turn.
+#[derive(Drop)]
+pub struct ForHead {
+    pub first: Boxed<ForInit>,
+    pub condition: Option<Boxed<Expr>>,
+    pub step: Option<Boxed<ForStep>>,
+}
+
+/// The head of a `for` over a range ([stmt.ranged]): the type and the name of the element, and what is gone over.
+#[derive(Drop)]
+pub struct ForRange {
+    pub of_type: Boxed<TypeTree>,
+    pub name: Identifier,
+    pub over: Boxed<Expr>,
 }
 
 /// The first statement in the head of a `for` ([stmt.for]).
@@ -65,10 +82,10 @@ pub enum ForStep {
 pub struct LocalTree {
     pub span: Span,
     pub is_constexpr: bool,
-    pub of_type: TypeTree,
+    pub of_type: Boxed<TypeTree>,
     pub name: Identifier,
     pub bounds: Items<BoundTree>,
-    pub init: Option<InitTree>,
+    pub init: Option<Boxed<InitTree>>,
 }
 
 /// `[ expr ]` of a declarator ([dcl.array]), or `[ ]`.
@@ -90,9 +107,9 @@ pub enum InitTree {
 #[derive(Drop)]
 pub enum AssignTree {
     /// `unary = expr` or `unary = braced`
-    Equal(Span, Expr, ArgTree),
+    Equal(Span, Expr, Boxed<ArgTree>),
     /// `unary OP= expr`
-    Compound(Span, IntOp, Expr, Expr),
+    Compound(Span, IntOp, Expr, Boxed<Expr>),
     /// `++ unary`, `-- unary`, `unary ++` or `unary --`.
     Step(Span, StepOp, Expr),
 }

@@ -90,13 +90,13 @@ module _ (tokens : Tokens) (level : ℕ) (low : level ≤ 256) where
     unfolding part
     no_part = simp (no_punctuator_at tokens (i + 1) _ paren SCOPE refl)
 
-    one_part : parts tokens (found.0 ∷ []) (i + 1) ≡ Tree (found.0 ∷ []) (i + 1)
+    one_part : parts tokens [] (i + 1) ≡ Tree [] (i + 1)
     unfolding parts
-    one_part = let none : parts_on tokens (found.0 ∷ []) (i + 1) ≡ No Nothing = simp (no_part) in turns_none (parts_on tokens) (found.0 ∷ []) (i + 1) (left tokens (i + 1)) none
+    one_part = let none : parts_on tokens [] (i + 1) ≡ No Nothing = simp (no_part) in turns_none (parts_on tokens) [] (i + 1) (left tokens (i + 1)) none
 
     one_name : (n : NameTree) × (any_name tokens i ≡ Tree n (i + 1))
     unfolding any_name
-    one_name = (record { span = span tokens i (i + 1); rooted = false; parts = found.0 ∷ [] }, simp (present_none (punctuator tokens SCOPE) i (no_punctuator_at tokens i (Some Identifier) there SCOPE refl), found.1, one_part))
+    one_name = (record { span = span tokens i (i + 1); rooted = false; first = found.0; more = [] }, simp (present_none (punctuator tokens SCOPE) i (no_punctuator_at tokens i (Some Identifier) there SCOPE refl), found.1, one_part))
 
     one_basic : (b : BasicTree) × (basic tokens (read tokens (level + 1)) i ≡ Tree b (i + 1))
     unfolding basic_name

@@ -12,7 +12,7 @@ use crate::member::{
     member_declared,
 };
 use crate::named::are_named;
-use cxx_reading::{Fault, Seen, expect, identifier, kind_ahead, kind_at, left, span};
+use cxx_reading::{Fault, Seen, expect, identifier, kind_ahead, kind_at, left, single, span};
 use cxx_tokens::Tokens;
 use cxx_tokens::keyword::{
     CLASS, CONSTEVAL, ENUM, PRIVATE, PROTECTED, PUBLIC, STATIC_ASSERT, STRUCT, USING,
@@ -123,8 +123,7 @@ fn some_members(
     ensures { Gives (spec.some_members tokens.now level (read_members tokens.now (level + 1)) start) result }
 {
     let (first, at) = member_at(alloc, tokens, start, level + 1)?;
-    let mut found = Items::new(alloc);
-    found.push(first)?;
+    let found = single(alloc, first)?;
     more_members(alloc, tokens, found, at, level)
 }
 

@@ -15,6 +15,7 @@ use cxx_tree::Decl;
 use parse_expr::type_at;
 use parse_parts::{enumeration, namespace_alias, no_words, specifiers};
 use parse_stmt::{alias_at, assert_at};
+use sqlite_items::Boxed;
 use std::alloc::Global;
 
 #[tactic(auto, unfolding(crate::specs::Joined::function_behind))]
@@ -84,7 +85,7 @@ fn decl_typed(
     let (name, at) = identifier(tokens, at)?;
     let head = Head {
         words,
-        of_type,
+        of_type: Boxed::new(alloc, of_type)?,
         name,
     };
     decl_rest(alloc, tokens, start, head, at, level)

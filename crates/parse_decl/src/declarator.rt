@@ -13,18 +13,23 @@ use cxx_tokens::mark::SEMICOLON;
 use cxx_tree::{BodyTree, FunctionTree, Identifier, TypeTree, VariableTree};
 use parse_parts::{fit_words, parameters, specifiers_of, stand_together};
 use parse_stmt::{allowed, body, bounds, fit_bounds, init_if_any};
+use sqlite_items::Boxed;
 use std::alloc::Global;
 
 /// What stands before the rest of a declaration.
 #[derive(Drop)]
 pub struct Head {
     pub words: DeclWords,
-    pub of_type: TypeTree,
+    pub of_type: Boxed<TypeTree>,
     pub name: Identifier,
 }
 
 #[tactic(auto, unfolding(cxx_grammar::specs::Declarations::without_body))]
-fn without_body(tokens: &Tokens, start: u32, level: u32) -> Result<(Option<BodyTree>, u32), Fault>
+fn without_body(
+    tokens: &Tokens,
+    start: u32,
+    level: u32,
+) -> Result<(Option<Boxed<BodyTree>>, u32), Fault>
     ensures { Gives (spec.without_body tokens.now level start) result }
 {
     let end = expect(tokens, SEMICOLON, start)?;
@@ -37,12 +42,12 @@ fn with_body(
     tokens: &Tokens,
     start: u32,
     level: u32,
-) -> Result<(Option<BodyTree>, u32), Fault>
+) -> Result<(Option<Boxed<BodyTree>>, u32), Fault>
     requires { level ≤ 256 }
     ensures { Gives (spec.with_body tokens.now level start) result }
 {
     let (x, end) = body(alloc, tokens, start, level)?;
-    Ok((Some(x), end))
+    Ok((Some(Boxed::new(alloc, x)?), end))
 }
 
 #[tactic(auto, unfolding(cxx_grammar::specs::Declarations::body_or_none), using(cxx_reading::proofs::Choices::choice))]
@@ -51,7 +56,7 @@ fn body_or_none(
     tokens: &Tokens,
     start: u32,
     level: u32,
-) -> Result<(Option<BodyTree>, u32), Fault>
+) -> Result<(Option<Boxed<BodyTree>>, u32), Fault>
     requires { level ≤ 256 }
     ensures { Gives (spec.body_or_none tokens.now level start) result }
 {

@@ -19,6 +19,7 @@ use cxx_tree::{BlockTree, Member};
 use parse_expr::type_at;
 use parse_parts::{access, enumeration, no_words, specifiers};
 use parse_stmt::{alias_at, assert_at, body};
+use sqlite_items::Boxed;
 use std::alloc::Global;
 
 /// `public:`, `protected:` or `private:`.
@@ -124,7 +125,7 @@ fn member_typed(
     let (name, at) = identifier(tokens, at)?;
     let head = Head {
         words,
-        of_type,
+        of_type: Boxed::new(alloc, of_type)?,
         name,
     };
     member_rest(alloc, tokens, start, head, at, level)

@@ -15,6 +15,7 @@ use parse_parts::{
     constructor_words, member_inits, no_words, parameters, specifiers_of, stand_together,
 };
 use parse_stmt::{allowed, body};
+use sqlite_items::Boxed;
 use std::alloc::Global;
 
 /// A constructor that began at `start`, behind its words.
@@ -35,6 +36,7 @@ pub fn constructor_rest(
     let (is_noexcept, at) = eat_word(tokens, NOEXCEPT, at);
     let (inits, at) = member_inits(alloc, tokens, at, level)?;
     let (body, end) = body(alloc, tokens, at, level)?;
+    let body = Boxed::new(alloc, body)?;
     let tree = ConstructorTree {
         span: span(tokens, start, end),
         is_explicit: words.is_explicit,

@@ -12,13 +12,13 @@ use crate::declaration::{
     alias_decl, assert_decl, block_decl, declared, enum_decl, namespace_decl,
 };
 use crate::syntax_fault::SyntaxFault;
-use cxx_reading::{Fault, Seen, expect, expect_word, identifier, kind_at, span};
+use cxx_reading::{Fault, Seen, expect, expect_word, identifier, kind_at, single, span};
 use cxx_tokens::Tokens;
 use cxx_tokens::keyword::{CLASS, CONSTEVAL, ENUM, NAMESPACE, STATIC_ASSERT, STRUCT, USING};
 use cxx_tokens::mark::{EQUAL, LEFT_BRACE, RIGHT_BRACE, SEMICOLON};
 use cxx_tree::{Decl, Item, Unit};
 use parse_type::parts;
-use sqlite_items::Items;
+use sqlite_items::{Boxed, Items};
 use std::alloc::Global;
 
 #[tactic(auto, unfolding(cxx_grammar::specs::Declarations::class_decl))]
@@ -80,9 +80,7 @@ fn namespace_head(alloc: Global, tokens: &Tokens, start: u32) -> Result<(Item, u
 {
     let at = expect_word(tokens, NAMESPACE, start)?;
     let (first, at) = identifier(tokens, at)?;
-    let mut found = Items::new(alloc);
-    found.push(first)?;
-    let (names, at) = parts(tokens, found, at)?;
+    let (names, at) = parts(tokens, single(alloc, first)?, at)?;
     let end = expect(tokens, LEFT_BRACE, at)?;
     Ok((Item::NamespaceHead(span(tokens, start, end), names), end))
 }
@@ -100,7 +98,7 @@ fn decl_item(alloc: Global, tokens: &Tokens, start: u32) -> Result<(Item, u32), 
     ensures { Gives (spec.decl_item tokens.now start) result }
 {
     let (x, end) = declaration(alloc, tokens, start)?;
-    Ok((Item::Decl(x), end))
+    Ok((Item::Decl(Boxed::new(alloc, x)?), end))
 }
 
 #[tactic(auto, unfolding(cxx_grammar::specs::Units::empty_item))]

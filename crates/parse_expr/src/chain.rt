@@ -12,7 +12,7 @@ use crate::made;
 use crate::operator::{line, next_line};
 use crate::reader::ExprReader;
 use cxx_grammar::SizedOperand;
-use cxx_reading::{Fault, left, span};
+use cxx_reading::{Fault, left, push, span};
 use cxx_tokens::Tokens;
 use cxx_tree::{BracedTree, Expr, Operation, TypeTree};
 use sqlite_items::Items;
@@ -91,7 +91,7 @@ impl<
         for _turn in 0..left(self.primaries.lists.types.tokens, at) {
             match self.operation(n, at) {
                 Ok((x, after)) => {
-                    found.push(x)?;
+                    push(self.primaries.lists.types.alloc, &mut found, x)?;
                     at = after;
                 }
                 Err(Fault::Syntax) => return Ok((found, at)),

@@ -6,7 +6,7 @@ ghost use Rattle.cxx_reading.specs.Reading.{Gives};
 ghost use Rattle.cxx_reading.specs.Readers.{Reader};
 
 use crate::reader::ListReader;
-use cxx_reading::{Fault, expect, left, longer, span};
+use cxx_reading::{Fault, expect, left, longer, single, span};
 use cxx_tokens::Tokens;
 use cxx_tokens::mark::{COMMA, LEFT_PAREN, RIGHT_PAREN};
 use cxx_tree::{ArgTree, ArgTrees, BracedTree, Expr};
@@ -97,8 +97,7 @@ impl<
         ensures { Gives (spec.some_args self.now.types.tokens.now (read self.now.types.tokens.now self.now.types.level) start) result }
     {
         let (first, at) = self.arg(start)?;
-        let mut found = Items::new(self.types.alloc);
-        found.push(first)?;
+        let found = single(self.types.alloc, first)?;
         self.more_args(found, at)
     }
 

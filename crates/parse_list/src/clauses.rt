@@ -5,6 +5,7 @@ ghost use Rattle.cxx_grammar.specs.Lists as spec;
 ghost use Rattle.cxx_grammar.specs.declared.clause.Clauses.TheVariants as clauses_of;
 
 use cxx_grammar::{Clause, Clauses};
+use cxx_reading::single;
 use cxx_tree::{ArgTree, Designator};
 use sqlite_items::Items;
 use std::alloc::{AllocError, Global};
@@ -15,13 +16,11 @@ pub fn first_clause(alloc: Global, clause: Clause) -> Result<Clauses, AllocError
 {
     match clause {
         Clause::Plain(x) => {
-            let mut found = Items::new(alloc);
-            found.push(x)?;
+            let found = single(alloc, x)?;
             Ok(Clauses::Plain(found))
         }
         Clause::Designator(x) => {
-            let mut found = Items::new(alloc);
-            found.push(x)?;
+            let found = single(alloc, x)?;
             Ok(Clauses::Designated(found))
         }
     }

@@ -6,7 +6,7 @@ ghost use Rattle.cxx_grammar.specs.Sequences.{next_of};
 ghost use Rattle.cxx_reading.specs.Reading.{Gives, optional};
 
 use crate::specifier::access;
-use cxx_reading::{Fault, expect, expect_word, left, longer, span};
+use cxx_reading::{Fault, expect, expect_word, left, longer, single, span};
 use cxx_tokens::Tokens;
 use cxx_tokens::keyword::TYPENAME;
 use cxx_tokens::mark::{COLON, COMMA};
@@ -146,8 +146,7 @@ fn some_bases(
 {
     let at = expect(tokens, COLON, start)?;
     let (first, at) = base(alloc, tokens, at, level)?;
-    let mut found = Items::new(alloc);
-    found.push(first)?;
+    let found = single(alloc, first)?;
     more_bases(alloc, tokens, found, at, level)
 }
 

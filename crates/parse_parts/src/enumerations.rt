@@ -6,13 +6,13 @@ ghost use Rattle.cxx_grammar.specs.Sequences.{next_of};
 ghost use Rattle.cxx_reading.specs.Reading.{Gives, optional};
 
 use crate::specifier::key;
-use cxx_reading::{Fault, eat, expect, expect_word, identifier, left, span};
+use cxx_reading::{Fault, eat, expect, expect_word, identifier, left, single, span};
 use cxx_tokens::Tokens;
 use cxx_tokens::keyword::ENUM;
 use cxx_tokens::mark::{COLON, COMMA, EQUAL, LEFT_BRACE, RIGHT_BRACE, SEMICOLON};
 use cxx_tree::{ClassKey, EnumTree, EnumeratorTree, Expr, TypeTree};
 use parse_expr::{expression, type_at};
-use sqlite_items::Items;
+use sqlite_items::{Boxed, Items};
 use std::alloc::Global;
 
 // The last level at which a rule may be read.
@@ -133,8 +133,7 @@ fn some_enumerators(
     ensures { Gives (spec.some_enumerators tokens.now level start) result }
 {
     let (first, at) = enumerator(alloc, tokens, start, level)?;
-    let mut found = Items::new(alloc);
-    found.push(first)?;
+    let found = single(alloc, first)?;
     let (found, at) = more_enumerators(alloc, tokens, found, at, level)?;
     let (_, end) = eat(tokens, COMMA, at);
     Ok((found, end))
@@ -164,12 +163,13 @@ fn underlying(
     tokens: &Tokens,
     start: u32,
     level: u32,
-) -> Result<(TypeTree, u32), Fault>
+) -> Result<(Boxed<TypeTree>, u32), Fault>
     requires { level ≤ 256 }
     ensures { Gives (spec.underlying tokens.now level start) result }
 {
     let at = expect(tokens, COLON, start)?;
-    type_at(alloc, tokens, at, level)
+    let (x, end) = type_at(alloc, tokens, at, level)?;
+    Ok((Boxed::new(alloc, x)?, end))
 }
 
 #[tactic(auto, unfolding(cxx_reading::specs::Reading::optional))]
@@ -178,7 +178,7 @@ fn underlying_if_any(
     tokens: &Tokens,
     start: u32,
     level: u32,
-) -> Result<(Option<TypeTree>, u32), Fault>
+) -> Result<(Option<Boxed<TypeTree>>, u32), Fault>
     requires { level ≤ 256 }
     ensures { Gives (optional (spec.underlying tokens.now level) start) result }
 {

@@ -5,7 +5,7 @@ ghost use Rattle.cxx_grammar.specs.Declarations as spec;
 ghost use Rattle.cxx_grammar.specs.Sequences.{next_of};
 ghost use Rattle.cxx_reading.specs.Reading.{Gives};
 
-use cxx_reading::{Fault, expect, left, longer, span};
+use cxx_reading::{Fault, expect, left, longer, single, span};
 use cxx_tokens::Tokens;
 use cxx_tokens::mark::{COLON, COMMA};
 use cxx_tree::{MemberInit, MemberInitValue};
@@ -124,8 +124,7 @@ fn some_inits(
 {
     let at = expect(tokens, COLON, start)?;
     let (first, at) = member_init(alloc, tokens, at, level)?;
-    let mut found = Items::new(alloc);
-    found.push(first)?;
+    let found = single(alloc, first)?;
     more_inits(alloc, tokens, found, at, level)
 }
 

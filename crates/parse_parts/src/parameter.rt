@@ -6,7 +6,7 @@ ghost use Rattle.cxx_grammar.specs.Sequences.{next_of};
 ghost use Rattle.cxx_reading.specs.Reading as reading;
 ghost use Rattle.cxx_reading.specs.Reading.{Gives, optional};
 
-use cxx_reading::{Fault, expect, identifier, left, span};
+use cxx_reading::{Fault, expect, identifier, left, single, span};
 use cxx_tokens::Tokens;
 use cxx_tokens::mark::{COMMA, LEFT_PAREN, RIGHT_PAREN};
 use cxx_tree::{Identifier, ParameterTree};
@@ -99,8 +99,7 @@ fn some_parameters(
     ensures { Gives (spec.some_parameters tokens.now level start) result }
 {
     let (first, at) = parameter(alloc, tokens, start, level)?;
-    let mut found = Items::new(alloc);
-    found.push(first)?;
+    let found = single(alloc, first)?;
     more_parameters(alloc, tokens, found, at, level)
 }
 

@@ -27,11 +27,11 @@ use std::alloc::Global;
 fn is_extract(name: &NameTree) -> bool
     ensures { result ≡ names.is_extract name.now }
 {
-    let count = name.parts.len();
-    if count < 2 {
+    let count = name.more.len();
+    if count == 0 {
         return false;
     }
-    match name.parts.get(count - 1) {
+    match name.more.get(count - 1) {
         Some(part) => part.name.0 == EXTRACT,
         None => false,
     }

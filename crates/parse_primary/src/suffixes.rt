@@ -8,7 +8,7 @@ ghost use Rattle.cxx_reading.specs.Readers.{Reader};
 
 use crate::made;
 use crate::reader::PrimaryReader;
-use cxx_reading::{Fault, Seen, expect, identifier, kind_at, left, longer, span};
+use cxx_reading::{Fault, Seen, expect, identifier, kind_at, left, longer, push, span};
 use cxx_tokens::Tokens;
 use cxx_tokens::mark::{ARROW, DOT, LEFT_BRACKET, LEFT_PAREN, RIGHT_BRACKET};
 use cxx_tree::{BracedTree, Expr, Suffix};
@@ -134,7 +134,7 @@ impl<
         for _turn in 0..left(self.lists.types.tokens, at) {
             match self.suffix(at) {
                 Ok((x, after)) => {
-                    found.push(x)?;
+                    push(self.lists.types.alloc, &mut found, x)?;
                     at = after;
                 }
                 Err(Fault::Syntax) => return Ok((found, at)),

@@ -6,6 +6,7 @@ use Rattle.cxx_tree.specs.declared.expr.Expr.{Expr}
 use Rattle.cxx_tree.specs.declared.expr.TypeTree.{TypeTree}
 use Rattle.cxx_tree.specs.declared.stmt.LocalTree.{LocalTree}
 use Rattle.cxx_tree.specs.declared.stmt.ForInit.{ForInit}
+use Rattle.cxx_tree.specs.declared.stmt.ForRange.{ForRange}
 use Rattle.cxx_tree.specs.declared.stmt.ForInit.TheVariants as for-init-of
 use Rattle.cxx_tree.specs.declared.stmt.Stmt.{Stmt}
 use Rattle.cxx_tree.specs.declared.stmt.Stmt.TheVariants as stmt-of
@@ -18,7 +19,6 @@ use Rattle.cxx_reading.specs.Reading.{End, Tree, No, Nothing, TooDeep, Rule, and
 use Rattle.cxx_reading.proofs.Starts.{is_false, is_that_punctuator, is_that_word, longer_nothing, no_punctuator, no_punctuator_at, no_word, word_there, optional_none}
 use Rattle.cxx_reading.proofs.Factor.{assoc, pointwise, factor}
 use Rattle.cxx_reading.proofs.Turns.{turns_none}
-use Rattle.cxx_grammar.specs.declared.parts.Range.{Range}
 use Rattle.cxx_grammar.specs.Sequences.{with_next}
 use Rattle.cxx_grammar.specs.Lists.{braced}
 use Rattle.cxx_grammar.specs.Read.{read}
@@ -67,22 +67,22 @@ module _ (tokens : Tokens) (outer level : ℕ) (low : level ≤ 256) (inner : St
   abbrev after_first : ForInit → Rule Stmt
   after_first first l = and_then (optional (read tokens level).expr l) (λ condition m. and_then (punctuator tokens mark.SEMICOLON m) (λ t n.
       and_then (optional (for_step tokens outer inner level in_loop) n) (λ step o. and_then (punctuator tokens mark.RIGHT_PAREN o) (λ u q.
-      and_then (turned q) (λ turn r. Tree (stmt-of.For (span tokens start r) first condition step turn) r)))))
+      and_then (turned q) (λ turn r. Tree (stmt-of.For (span tokens start r) (record { first = first; condition = condition; step = step }) turn) r)))))
 
   abbrev after_first_joined : ForInit → Rule Stmt
   after_first_joined first l = and_then (optional (read tokens level).expr l) (λ condition m. and_then (punctuator tokens mark.SEMICOLON m) (λ t n.
-      and_then (step_closed tokens level n) (λ step q. and_then (turned q) (λ turn r. Tree (stmt-of.For (span tokens start r) first condition step turn) r))))
+      and_then (step_closed tokens level n) (λ step q. and_then (turned q) (λ turn r. Tree (stmt-of.For (span tokens start r) (record { first = first; condition = condition; step = step }) turn) r))))
 
   rest_joined : (first : ForInit) (l : ℕ) → after_first first l ≡ after_first_joined first l
   rest_joined first l = pointwise (optional (read tokens level).expr l) _ _ (λ condition m. pointwise (punctuator tokens mark.SEMICOLON m) _ _ (λ t n.
-      step_closes tokens outer level n low inner in_loop (λ step q. and_then (turned q) (λ turn r. Tree (stmt-of.For (span tokens start r) first condition step turn) r))))
+      step_closes tokens outer level n low inner in_loop (λ step q. and_then (turned q) (λ turn r. Tree (stmt-of.For (span tokens start r) (record { first = first; condition = condition; step = step }) turn) r))))
 
   rest_is : (first : ForInit) (l : ℕ) → after_first first l ≡ for_rest tokens level turned start first l
   unfolding for_rest
   rest_is first l = rest_joined first l ∙ sym (simp assoc)
 
-  abbrev after_range : Range → Rule Stmt
-  after_range r l = and_then (punctuator tokens mark.RIGHT_PAREN l) (λ t m. and_then (turned m) (λ turn q. Tree (stmt-of.RangeFor (span tokens start q) r.of_type r.name r.over turn) q))
+  abbrev after_range : ForRange → Rule Stmt
+  after_range r l = and_then (punctuator tokens mark.RIGHT_PAREN l) (λ t m. and_then (turned m) (λ turn q. Tree (stmt-of.RangeFor (span tokens start q) r turn) q))
 
   -- both forms
   abbrev both : ℕ → End Stmt

@@ -189,7 +189,7 @@ module _ (tokens : Tokens) where
         punctuator tokens mark.SEMICOLON
         step ← step_closed
         turn ← sub
-        pure (λ s. stmt-of.For s first condition step turn))
+        pure (λ s. stmt-of.For s (record { first = first; condition = condition; step = step }) turn))
 
       -- behind the type and the name of a `for` over a range
       unfoldable pub range_rest : ℕ → TypeTree → Identifier → Rule Stmt
@@ -198,7 +198,7 @@ module _ (tokens : Tokens) where
         over ← (read tokens level).expr
         punctuator tokens mark.RIGHT_PAREN
         turn ← sub
-        pure (λ s. stmt-of.RangeFor s t n over turn))
+        pure (λ s. stmt-of.RangeFor s (record { of_type = t; name = n; over = over }) turn))
 
       -- behind a type that began at `first`, and a name
       unfoldable pub for_typed : ℕ → ℕ → TypeTree → Identifier → Rule Stmt

@@ -12,6 +12,7 @@ use cxx_tokens::keyword::USING;
 use cxx_tokens::mark::{EQUAL, SEMICOLON};
 use cxx_tree::{AliasTree, AliasedTree};
 use parse_expr::{splice_at, type_at};
+use sqlite_items::Boxed;
 use std::alloc::Global;
 
 fn aliased_type(
@@ -24,7 +25,7 @@ fn aliased_type(
     ensures { Gives (and_then ((read tokens.now level).type_tree at) (λ x j. Tree (aliased_of.Type x) j)) result }
 {
     let (x, end) = type_at(alloc, tokens, at, level)?;
-    Ok((AliasedTree::Type(x), end))
+    Ok((AliasedTree::Type(Boxed::new(alloc, x)?), end))
 }
 
 fn aliased_splice(

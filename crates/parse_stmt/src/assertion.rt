@@ -12,6 +12,7 @@ use cxx_tokens::keyword::STATIC_ASSERT;
 use cxx_tokens::mark::{COMMA, LEFT_PAREN, RIGHT_PAREN, SEMICOLON};
 use cxx_tree::AssertTree;
 use parse_expr::expression;
+use sqlite_items::Boxed;
 use std::alloc::Global;
 
 // "," STRING
@@ -54,6 +55,7 @@ pub fn assert_at(
     let at = expect(tokens, RIGHT_PAREN, at)?;
     let end = expect(tokens, SEMICOLON, at)?;
     let span = span(tokens, start, end);
+    let condition = Boxed::new(alloc, condition)?;
     Ok((
         AssertTree {
             span,

@@ -14,6 +14,7 @@ use cxx_tokens::Tokens;
 use cxx_tokens::mark::EQUAL;
 use cxx_tree::{ArgTree, AssignTree, Expr, ForStep};
 use parse_expr::{braced_at, expression, expression_behind, unary_at};
+use sqlite_items::Boxed;
 use std::alloc::Global;
 
 #[tactic(auto, unfolding(cxx_grammar::specs::Lists::arg_expr))]
@@ -65,6 +66,7 @@ fn equal_rest(
 {
     let at = expect(tokens, EQUAL, at)?;
     let (x, end) = value(alloc, tokens, at, level)?;
+    let x = Boxed::new(alloc, x)?;
     Ok((AssignTree::Equal(span(tokens, start, end), place, x), end))
 }
 
@@ -82,6 +84,7 @@ fn compound_rest(
 {
     let (op, at) = compound(tokens, at)?;
     let (x, end) = expression(alloc, tokens, at, level)?;
+    let x = Boxed::new(alloc, x)?;
     let span = span(tokens, start, end);
     Ok((AssignTree::Compound(span, op, place, x), end))
 }

@@ -7,7 +7,7 @@ ghost use Rattle.cxx_tree.specs.declared.stmt.Stmt.TheVariants as stmt_of;
 ghost use Rattle.parse_stmt.specs.Readers.{LoopReader, deeper_braces, inner};
 
 use crate::reader::StmtReader;
-use cxx_reading::{Fault, Seen, expect, kind_at, left, sees, span};
+use cxx_reading::{Fault, Seen, expect, kind_at, left, sees, single, span};
 use cxx_tokens::Tokens;
 use cxx_tokens::keyword::{BREAK, CONTINUE, FOR, IF, RETURN, STATIC_ASSERT, USING, WHILE};
 use cxx_tokens::mark::{LEFT_BRACE, RIGHT_BRACE, SEMICOLON};
@@ -123,8 +123,7 @@ impl<
         ensures { Gives (spec.some_statements self.now.tokens.now (spec.stmt self.now.tokens.now self.now.level (inner self.now.tokens.now self.now.level) in_loop) start) result }
     {
         let (first, at) = self.stmt_here(start, in_loop)?;
-        let mut found = Items::new(self.alloc);
-        found.push(first)?;
+        let found = single(self.alloc, first)?;
         self.more_statements(found, at, in_loop)
     }
 

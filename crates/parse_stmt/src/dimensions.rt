@@ -6,7 +6,7 @@ ghost use Rattle.cxx_grammar.specs.Statements as spec;
 ghost use Rattle.cxx_reading.specs.Reading.{Gives, optional};
 
 use crate::nested::deep_expression;
-use cxx_reading::{Fault, expect, left, span};
+use cxx_reading::{Fault, expect, left, push, span};
 use cxx_tokens::Tokens;
 use cxx_tokens::mark::{LEFT_BRACKET, RIGHT_BRACKET};
 use cxx_tree::{BoundTree, Expr};
@@ -57,7 +57,7 @@ fn more_bounds(
     for _turn in 0..left(tokens, at) {
         match bound(alloc, tokens, at, level) {
             Ok((x, after)) => {
-                found.push(x)?;
+                push(alloc, &mut found, x)?;
                 at = after;
             }
             Err(Fault::Syntax) => return Ok((found, at)),

@@ -1,10 +1,10 @@
 //! Which bounds and initializers stand together ([dcl.array], [dcl.init.aggr]).
 
-ghost use Rattle.std.specs.Prelude.{◌≡◌};
+ghost use Rattle.std.specs.Prelude.{◌≡◌, Some};
 ghost use Rattle.cxx_grammar.specs.Statements as spec;
 
 use cxx_tree::{BoundTree, InitTree};
-use sqlite_items::Items;
+use sqlite_items::{Boxed, Items};
 
 fn have_lengths(bounds: &[BoundTree]) -> bool
     ensures { result ≡ spec.have_lengths bounds.now }
@@ -19,19 +19,27 @@ fn have_lengths(bounds: &[BoundTree]) -> bool
     true
 }
 
-fn is_braced_init(init: &Option<InitTree>) -> bool
+fn is_braced(init: &InitTree) -> bool
+    ensures { result ≡ spec.is_braced_init (Some init.now) }
+{
+    match init {
+        InitTree::EqualBraced(_) => true,
+        InitTree::Braced(_) => true,
+        InitTree::Equal(_) => false,
+    }
+}
+
+fn is_braced_init(init: &Option<Boxed<InitTree>>) -> bool
     ensures { result ≡ spec.is_braced_init init.now }
 {
     match init {
-        Some(InitTree::EqualBraced(_)) => true,
-        Some(InitTree::Braced(_)) => true,
-        Some(InitTree::Equal(_)) => false,
+        Some(init) => is_braced(init.get()),
         None => false,
     }
 }
 
 /// Whether a bound without a length stands only first, and before a braced initializer.
-pub fn fit_bounds(bounds: &Items<BoundTree>, init: &Option<InitTree>) -> bool
+pub fn fit_bounds(bounds: &Items<BoundTree>, init: &Option<Boxed<InitTree>>) -> bool
     ensures { result ≡ spec.fit_bounds bounds.now init.now }
 {
     match bounds.as_slice().split_first() {

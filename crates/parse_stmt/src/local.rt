@@ -15,6 +15,7 @@ use cxx_tokens::keyword::CONSTEXPR;
 use cxx_tokens::mark::SEMICOLON;
 use cxx_tree::{Identifier, InitTree, LocalTree, TypeTree};
 use parse_expr::type_at;
+use sqlite_items::Boxed;
 use std::alloc::Global;
 
 /// The initializer that begins at token number `at`, or none, as `init` reads it, and the number of the token after it.
@@ -24,12 +25,12 @@ pub fn init_if_any(
     tokens: &Tokens,
     at: u32,
     level: u32,
-) -> Result<(Option<InitTree>, u32), Fault>
+) -> Result<(Option<Boxed<InitTree>>, u32), Fault>
     requires { level ≤ 257 }
     ensures { Gives (optional (spec.init tokens.now level) at) result }
 {
     match init(alloc, tokens, at, level) {
-        Ok((x, end)) => Ok((Some(x), end)),
+        Ok((x, end)) => Ok((Some(Boxed::new(alloc, x)?), end)),
         Err(Fault::Syntax) => Ok((None, at)),
         Err(Fault::Deep) => Err(Fault::Deep),
         Err(Fault::Memory) => Err(Fault::Memory),
@@ -40,7 +41,7 @@ pub fn init_if_any(
 #[derive(Drop)]
 pub struct Declared {
     pub is_constexpr: bool,
-    pub of_type: TypeTree,
+    pub of_type: Boxed<TypeTree>,
 }
 
 /// The rest of a declaration that began at `start`.
@@ -88,7 +89,7 @@ pub fn local(
     let (name, at) = identifier(tokens, at)?;
     let before = Declared {
         is_constexpr,
-        of_type,
+        of_type: Boxed::new(alloc, of_type)?,
     };
     local_rest(alloc, tokens, start, before, name, at, level)
 }

@@ -11,16 +11,16 @@ ghost use Rattle.parse_stmt.specs.Readers.{LoopReader, inner};
 use crate::assign::{assign, closed};
 use crate::begins::begins_local;
 use crate::local::{Declared, local, local_rest};
-use crate::made::{self, Head};
+use crate::made;
 use crate::nested::TOO_DEEP;
 use crate::reader::StmtReader;
-use cxx_grammar::Range;
 use cxx_reading::{Fault, expect, expect_word, identifier, longer, sees, sees_word, span};
 use cxx_tokens::Tokens;
 use cxx_tokens::keyword::{CONSTEXPR, FOR};
 use cxx_tokens::mark::{COLON, LEFT_PAREN, RIGHT_PAREN, SEMICOLON};
-use cxx_tree::{BodyTree, Expr, ForInit, ForStep, Identifier, Stmt, TypeTree};
+use cxx_tree::{BodyTree, Expr, ForHead, ForInit, ForRange, ForStep, Identifier, Stmt, TypeTree};
 use parse_expr::{expression, type_at};
+use sqlite_items::Boxed;
 use std::alloc::Global;
 
 #[tactic(auto, unfolding(cxx_reading::specs::Reading::optional))]
@@ -29,12 +29,12 @@ fn condition_if_any(
     tokens: &Tokens,
     at: u32,
     level: u32,
-) -> Result<(Option<Expr>, u32), Fault>
+) -> Result<(Option<Boxed<Expr>>, u32), Fault>
     requires { level ≤ 257 }
     ensures { Gives (optional (read tokens.now level).expr at) result }
 {
     match expression(alloc, tokens, at, level) {
-        Ok((x, end)) => Ok((Some(x), end)),
+        Ok((x, end)) => Ok((Some(Boxed::new(alloc, x)?), end)),
         Err(Fault::Syntax) => Ok((None, at)),
         Err(Fault::Deep) => Err(Fault::Deep),
         Err(Fault::Memory) => Err(Fault::Memory),
@@ -77,12 +77,12 @@ fn step_there(
     tokens: &Tokens,
     at: u32,
     level: u32,
-) -> Result<(Option<ForStep>, u32), Fault>
+) -> Result<(Option<Boxed<ForStep>>, u32), Fault>
     requires { level ≤ 256 }
     ensures { Gives (joined.step_there tokens.now level at) result }
 {
     let (x, end) = closed(alloc, tokens, RIGHT_PAREN, at, level)?;
-    Ok((Some(x), end))
+    Ok((Some(Boxed::new(alloc, x)?), end))
 }
 
 // The step of a head, where there is one, and the parenthesis behind it.
@@ -92,7 +92,7 @@ fn step_closed(
     tokens: &Tokens,
     at: u32,
     level: u32,
-) -> Result<(Option<ForStep>, u32), Fault>
+) -> Result<(Option<Boxed<ForStep>>, u32), Fault>
     requires { level ≤ 256 }
     ensures { Gives (joined.step_closed tokens.now level at) result }
 {
@@ -123,8 +123,8 @@ impl<
         let at = expect(self.tokens, SEMICOLON, at)?;
         let (step, at) = step_closed(self.alloc, self.tokens, at, within)?;
         let (turn, end) = self.deep_sub(at, true)?;
-        let head = Head {
-            first,
+        let head = ForHead {
+            first: Boxed::new(self.alloc, first)?,
             condition,
             step,
         };
@@ -136,7 +136,7 @@ impl<
     fn range_rest(
         &self,
         start: u32,
-        of_type: TypeTree,
+        of_type: Boxed<TypeTree>,
         name: Identifier,
         at: u32,
         within: u32,
@@ -150,10 +150,10 @@ impl<
         let (over, at) = expression(self.alloc, self.tokens, at, within)?;
         let at = expect(self.tokens, RIGHT_PAREN, at)?;
         let (turn, end) = self.deep_sub(at, true)?;
-        let range = Range {
+        let range = ForRange {
             of_type,
             name,
-            over,
+            over: Boxed::new(self.alloc, over)?,
         };
         let span = span(self.tokens, start, end);
         Ok((made::range_turn(self.alloc, span, range, turn)?, end))
@@ -164,7 +164,7 @@ impl<
         &self,
         start: u32,
         first: u32,
-        of_type: TypeTree,
+        of_type: Boxed<TypeTree>,
         name: Identifier,
         at: u32,
         within: u32,
@@ -187,7 +187,7 @@ impl<
         &self,
         start: u32,
         first: u32,
-        of_type: TypeTree,
+        of_type: Boxed<TypeTree>,
         name: Identifier,
         at: u32,
         within: u32,
@@ -212,6 +212,7 @@ impl<
         ensures { Gives (joined.for_declared self.now.tokens.now within ((inner self.now.tokens.now self.now.level).sub true) start first) result }
     {
         let (of_type, at) = type_at(self.alloc, self.tokens, first, within)?;
+        let of_type = Boxed::new(self.alloc, of_type)?;
         let (name, at) = identifier(self.tokens, at)?;
         self.for_typed(start, first, of_type, name, at, within)
     }

@@ -4,8 +4,7 @@ ghost use Rattle.std.specs.Prelude.{◌≡◌, IfOk};
 ghost use Rattle.cxx_tree.specs.declared.stmt.Stmt.TheVariants as stmt_of;
 
 use cxx_base::Span;
-use cxx_grammar::Range;
-use cxx_tree::{Expr, ForInit, ForStep, Stmt};
+use cxx_tree::{Expr, ForHead, ForRange, Stmt};
 use sqlite_items::Boxed;
 use std::alloc::{AllocError, Global};
 
@@ -51,34 +50,21 @@ pub fn while_turn(
     Ok(Stmt::While(span, condition, turn))
 }
 
-/// What stands in the parentheses of a `for`.
-#[derive(Drop)]
-pub struct Head {
-    pub first: ForInit,
-    pub condition: Option<Expr>,
-    pub step: Option<ForStep>,
-}
-
-pub fn for_turn(alloc: Global, span: Span, head: Head, turn: Stmt) -> Result<Stmt, AllocError>
-    ensures { IfOk result (λ made. made ≡ stmt_of.For span head.first head.condition head.step turn) }
+pub fn for_turn(alloc: Global, span: Span, head: ForHead, turn: Stmt) -> Result<Stmt, AllocError>
+    ensures { IfOk result (λ made. made ≡ stmt_of.For span head turn) }
 {
     let turn = Boxed::new(alloc, turn)?;
-    let Head {
-        first,
-        condition,
-        step,
-    } = head;
-    Ok(Stmt::For(span, first, condition, step, turn))
+    Ok(Stmt::For(span, head, turn))
 }
 
-pub fn range_turn(alloc: Global, span: Span, range: Range, turn: Stmt) -> Result<Stmt, AllocError>
-    ensures { IfOk result (λ made. made ≡ stmt_of.RangeFor span range.of_type range.name range.over turn) }
+pub fn range_turn(
+    alloc: Global,
+    span: Span,
+    range: ForRange,
+    turn: Stmt,
+) -> Result<Stmt, AllocError>
+    ensures { IfOk result (λ made. made ≡ stmt_of.RangeFor span range turn) }
 {
     let turn = Boxed::new(alloc, turn)?;
-    let Range {
-        of_type,
-        name,
-        over,
-    } = range;
-    Ok(Stmt::RangeFor(span, of_type, name, over, turn))
+    Ok(Stmt::RangeFor(span, range, turn))
 }

@@ -74,15 +74,14 @@ fn any_name(alloc: Global, tokens: &Tokens, start: u32) -> Result<(NameTree, u32
 {
     let (rooted, at) = eat(tokens, SCOPE, start);
     let (first, at) = identifier(tokens, at)?;
-    let mut found = Items::new(alloc);
-    found.push(first)?;
-    let (parts, end) = parts(tokens, found, at)?;
+    let (more, end) = parts(tokens, Items::new(alloc), at)?;
     let span = span(tokens, start, end);
     Ok((
         NameTree {
             span,
             rooted,
-            parts,
+            first,
+            more,
         },
         end,
     ))

@@ -1,16 +1,18 @@
 //! From parsed trees to the declarations of the accepted form.
 
-ghost use Rattle.std.specs.Prelude.{◌≡◌, ◌++◌, ◌∷◌, [], IfOk, OnOk, OnErr};
+ghost use Rattle.std.specs.Prelude.{◌≡◌, [], IfOk, Some};
+ghost use Rattle.cxx_tree.specs.declared.decl.Item.TheVariants as item_of;
 ghost use Rattle.reflect_cli.specs.Accepted as spec;
 
 use crate::form_tree::{Arithmetic, Chain, Declaration, Link, Literal, Product, Sum};
 use cxx_base::{IntKind, IntOp, Memory, Place};
+use cxx_reading::push;
 use cxx_tree::{
     BasicTree, BinaryOp, Decl, Evaluated, Expr, Fund, InitTree, IntegerLiteral, Item, Operation,
     Specifiers, TypeTree, VariableTree,
 };
-use sqlite_items::Items;
-use std::alloc::{AllocError, Global};
+use sqlite_items::{Boxed, Items};
+use std::alloc::Global;
 
 fn int_literal(place: Place, decimal: bool, value: u64) -> Option<Literal>
     ensures { result ≡ spec.int_literal place decimal value }
@@ -73,17 +75,6 @@ fn multiplicative_link(operation: &Operation) -> Option<Link<Literal>>
         (Some(operator), Some(operand)) => Some(Link { operator, operand }),
         _ => None,
     }
-}
-
-// Puts a link at the end. The first takes room for itself alone: most chains are short.
-fn push<T: Drop>(alloc: Global, links: &mut Items<T>, link: T) -> Result<(), AllocError>
-    ensures ok { OnOk result (links.new ≡ links.old ++ link ∷ []) }
-    ensures err { OnErr result (links.new ≡ links.old) }
-{
-    if links.is_empty() {
-        *links = Items::from_vec(Vec::with_capacity(alloc, 1)?);
-    }
-    links.push(link)
 }
 
 fn multiplicative_links(
@@ -219,15 +210,24 @@ fn is_only_int(of: &TypeTree) -> bool
 fn has_form(x: &VariableTree) -> bool
     ensures { result ≡ spec.has_form x.now }
 {
-    is_only_constexpr(x.specifiers) && is_only_int(&x.of_type) && x.bounds.is_empty()
+    is_only_constexpr(x.specifiers) && is_only_int(x.of_type.get()) && x.bounds.is_empty()
 }
 
-fn initializer(alloc: Global, init: &Option<InitTree>) -> Result<Option<Sum>, Memory>
+fn initializer_sum(alloc: Global, init: &InitTree) -> Result<Option<Sum>, Memory>
+    ensures { IfOk result (λ found. found ≡ spec.initializer (Some init.now)) }
+{
+    match init {
+        InitTree::Equal(x) => sum(alloc, x),
+        _ => Ok(None),
+    }
+}
+
+fn initializer(alloc: Global, init: &Option<Boxed<InitTree>>) -> Result<Option<Sum>, Memory>
     ensures { IfOk result (λ found. found ≡ spec.initializer init.now) }
 {
     match init {
-        Some(InitTree::Equal(x)) => sum(alloc, x),
-        _ => Ok(None),
+        Some(init) => initializer_sum(alloc, init.get()),
+        None => Ok(None),
     }
 }
 
@@ -246,11 +246,20 @@ fn variable(alloc: Global, x: &VariableTree) -> Result<Option<Declaration>, Memo
     }
 }
 
+fn decl(alloc: Global, x: &Decl) -> Result<Option<Declaration>, Memory>
+    ensures { IfOk result (λ found. found ≡ spec.declaration (item_of.Decl x.now)) }
+{
+    match x {
+        Decl::Variable(x) => variable(alloc, x),
+        _ => Ok(None),
+    }
+}
+
 fn declaration(alloc: Global, item: &Item) -> Result<Option<Declaration>, Memory>
     ensures { IfOk result (λ found. found ≡ spec.declaration item.now) }
 {
     match item {
-        Item::Decl(Decl::Variable(x)) => variable(alloc, x),
+        Item::Decl(x) => decl(alloc, x.get()),
         _ => Ok(None),
     }
 }

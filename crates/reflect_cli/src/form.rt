@@ -7,13 +7,11 @@ ghost use Rattle.reflect_cli.specs.Search.{are_new};
 
 use crate::form_tree::{Declaration, Sum};
 use cxx_base::{MAX_PIECES, Memory};
+use cxx_grammar::STD;
 use indexmap::IndexSet;
 use std::alloc::Global;
 
 const MAX_LITERALS: usize = 256;
-
-// `std` is the first of the names of the library.
-const STD: u32 = 0;
 
 fn is_short(sum: &Sum) -> bool
     ensures { result ≡ nat_le (spec.sum_size sum.now) 256 }

@@ -22,7 +22,8 @@ impl NameTree {
         ensures { IsTrue result ↔ SameName self.now other.now }
     {
         self.rooted == other.rooted
-            && identifiers_same(self.parts.as_slice(), other.parts.as_slice())
+            && (self.first.same(&other.first)
+                && identifiers_same(self.more.as_slice(), other.more.as_slice()))
     }
 }
 

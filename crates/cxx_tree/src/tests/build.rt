@@ -49,14 +49,16 @@ impl Make {
     }
 
     pub(crate) fn name(self, rooted: bool, parts: &[u32]) -> Result<NameTree, AllocError> {
-        let mut identifiers = Items::new(self.alloc);
-        for part in parts {
-            identifiers.push(self.identifier(*part))?;
+        let (first, rest) = parts.split_first().unwrap_or((&0, &[]));
+        let mut more = Items::new(self.alloc);
+        for part in rest {
+            more.push(self.identifier(*part))?;
         }
         Ok(NameTree {
             span: self.span,
             rooted,
-            parts: identifiers,
+            first: self.identifier(*first),
+            more,
         })
     }
 

@@ -96,7 +96,7 @@ impl Printer<'_> {
         self.put("(using")?;
         self.put_words(x.name.span)?;
         match &x.of {
-            AliasedTree::Type(of) => self.put_form(" type", of.span()),
+            AliasedTree::Type(of) => self.put_form(" type", of.get().span()),
             AliasedTree::Splice(splice) => self.put_form(" splice", splice.span()),
         }
     }
@@ -107,7 +107,7 @@ impl Printer<'_> {
                 Some(_) => "(assert message",
                 None => "(assert",
             },
-            x.condition.span(),
+            x.condition.get().span(),
         )
     }
 
@@ -145,7 +145,7 @@ impl Printer<'_> {
         self.put_words(x.name.span)?;
         if let Some(of) = &x.underlying {
             self.put(" :")?;
-            self.put_words(of.span())?;
+            self.put_words(of.get().span())?;
         }
         for enumerator in x.enumerators.as_slice() {
             self.put_enumerator(enumerator)?;
@@ -170,14 +170,14 @@ impl Printer<'_> {
         self.put("(function")?;
         self.put_specifiers(x.specifiers)?;
         self.put(",")?;
-        self.put_words(x.returned.span())?;
+        self.put_words(x.returned.get().span())?;
         self.put(",")?;
         self.put_words(x.name.span)?;
         self.put_parameters(x.parameters.as_slice())?;
         self.put_if(x.is_const, " const")?;
         self.put_if(x.is_noexcept, " noexcept")?;
         if let Some(body) = &x.body {
-            self.put_words(body_span(body))?;
+            self.put_words(body_span(body.get()))?;
         }
         self.put(")")
     }
@@ -193,12 +193,11 @@ impl Printer<'_> {
         Ok(())
     }
 
-    fn put_init(&mut self, init: &Option<InitTree>) -> Result<(), AllocError> {
+    fn put_init(&mut self, init: &InitTree) -> Result<(), AllocError> {
         match init {
-            Some(InitTree::Equal(x)) => self.put_form(" (equal", x.span()),
-            Some(InitTree::EqualBraced(x)) => self.put_form(" (equal-braced", x.span()),
-            Some(InitTree::Braced(x)) => self.put_form(" (braced", x.span()),
-            None => Ok(()),
+            InitTree::Equal(x) => self.put_form(" (equal", x.span()),
+            InitTree::EqualBraced(x) => self.put_form(" (equal-braced", x.span()),
+            InitTree::Braced(x) => self.put_form(" (braced", x.span()),
         }
     }
 
@@ -206,11 +205,13 @@ impl Printer<'_> {
         self.put("(variable")?;
         self.put_specifiers(x.specifiers)?;
         self.put(",")?;
-        self.put_words(x.of_type.span())?;
+        self.put_words(x.of_type.get().span())?;
         self.put(",")?;
         self.put_words(x.name.span)?;
         self.put_bounds(x.bounds.as_slice())?;
-        self.put_init(&x.init)?;
+        if let Some(init) = &x.init {
+            self.put_init(init.get())?;
+        }
         self.put(")")
     }
 
@@ -234,7 +235,7 @@ impl Printer<'_> {
         for init in x.inits.as_slice() {
             self.put_member_init(init)?;
         }
-        self.put_form("", body_span(&x.body))
+        self.put_form("", body_span(x.body.get()))
     }
 
     fn put_destructor(&mut self, x: &DestructorTree) -> Result<(), AllocError> {
@@ -310,7 +311,7 @@ impl Printer<'_> {
                 self.put(")")
             }
             Item::Close(_) => self.put("close"),
-            Item::Decl(x) => self.put_decl(x),
+            Item::Decl(x) => self.put_decl(x.get()),
             Item::Empty(_) => self.put(";"),
         }
     }

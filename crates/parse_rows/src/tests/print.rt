@@ -339,12 +339,16 @@ fn form<'a>(piece: Piece<'a>) -> Form<'a> {
         Piece::Braced(list) => braced_form(list),
         Piece::Name(name) => {
             let before = if name.rooted { "::" } else { "" };
-            one(
-                &name.span,
-                before,
-                Piece::Parts("", name.parts.as_slice()),
-                "",
-            )
+            [
+                Piece::Span(&name.span),
+                Piece::Word(before),
+                Piece::Identifier(&name.first),
+                Piece::Parts("::", name.more.as_slice()),
+                NONE,
+                NONE,
+                NONE,
+                NONE,
+            ]
         }
         Piece::Splice(SpliceTree::Splice(span, x)) => one(span, "[:", Piece::Expr(x.get()), ":]"),
         Piece::Bound(n) => item(Piece::Word(" ["), Piece::Expr(n), Piece::Word("]")),

@@ -4,7 +4,7 @@
 use cxx_base::{IntOp, Span};
 use cxx_tree::{
     AliasTree, AliasedTree, ArgTree, AssertTree, AssignTree, BodyTree, BoundTree, ForInit, ForStep,
-    Identifier, InitTree, LocalTree, Returned, StepOp, Stmt,
+    InitTree, LocalTree, Returned, StepOp, Stmt,
 };
 use std::alloc::AllocError;
 
@@ -52,7 +52,7 @@ impl Printer<'_> {
             Some(_) => "(assert message",
             None => "(assert",
         })?;
-        self.put_words(x.condition.span())?;
+        self.put_words(x.condition.get().span())?;
         self.put(")")
     }
 
@@ -62,7 +62,7 @@ impl Printer<'_> {
         match &x.of {
             AliasedTree::Type(of) => {
                 self.put(" type")?;
-                self.put_words(of.span())?;
+                self.put_words(of.get().span())?;
             }
             AliasedTree::Splice(of) => {
                 self.put(" splice")?;
@@ -83,21 +83,20 @@ impl Printer<'_> {
         Ok(())
     }
 
-    fn put_init(&mut self, init: &Option<InitTree>) -> Result<(), AllocError> {
+    fn put_init(&mut self, init: &InitTree) -> Result<(), AllocError> {
         match init {
-            Some(InitTree::Equal(x)) => {
+            InitTree::Equal(x) => {
                 self.put(" equal")?;
                 self.put_words(x.span())
             }
-            Some(InitTree::EqualBraced(x)) => {
+            InitTree::EqualBraced(x) => {
                 self.put(" equal-braced")?;
                 self.put_words(x.span())
             }
-            Some(InitTree::Braced(x)) => {
+            InitTree::Braced(x) => {
                 self.put(" braced")?;
                 self.put_words(x.span())
             }
-            None => Ok(()),
         }
     }
 
@@ -107,11 +106,13 @@ impl Printer<'_> {
         } else {
             "(local"
         })?;
-        self.put_words(x.of_type.span())?;
+        self.put_words(x.of_type.get().span())?;
         self.put(",")?;
         self.put_words(x.name.span)?;
         self.put_bounds(x.bounds.as_slice())?;
-        self.put_init(&x.init)?;
+        if let Some(init) = &x.init {
+            self.put_init(init.get())?;
+        }
         self.put(")")
     }
 
@@ -120,18 +121,18 @@ impl Printer<'_> {
             AssignTree::Equal(_, place, value) => {
                 self.put("(=")?;
                 self.put_words(place.span())?;
-                self.put(match value {
+                self.put(match value.get() {
                     ArgTree::Expr(_) => ",",
                     ArgTree::Braced(_) => ", braced",
                 })?;
-                self.put_words(value.span())?;
+                self.put_words(value.get().span())?;
             }
             AssignTree::Compound(_, op, place, value) => {
                 self.put("(")?;
                 self.put(compound_text(*op))?;
                 self.put_words(place.span())?;
                 self.put(",")?;
-                self.put_words(value.span())?;
+                self.put_words(value.get().span())?;
             }
             AssignTree::Step(_, op, place) => {
                 self.put(match op {
@@ -154,11 +155,10 @@ impl Printer<'_> {
         }
     }
 
-    fn put_for_step(&mut self, x: &Option<ForStep>) -> Result<(), AllocError> {
+    fn put_for_step(&mut self, x: &ForStep) -> Result<(), AllocError> {
         match x {
-            Some(ForStep::Assign(x)) => self.put_assign(x),
-            Some(ForStep::Expr(x)) => self.put_words(x.span()),
-            None => Ok(()),
+            ForStep::Assign(x) => self.put_assign(x),
+            ForStep::Expr(x) => self.put_words(x.span()),
         }
     }
 
@@ -215,26 +215,28 @@ impl Printer<'_> {
                 self.put_stmt(turn.get())?;
                 self.put(")")
             }
-            Stmt::For(_, first, condition, step, turn) => {
+            Stmt::For(_, head, turn) => {
                 self.put("(for")?;
-                self.put_for_init(first)?;
+                self.put_for_init(head.first.get())?;
                 self.put(" while")?;
-                if let Some(condition) = condition {
-                    self.put_words(condition.span())?;
+                if let Some(condition) = &head.condition {
+                    self.put_words(condition.get().span())?;
                 }
                 self.put(" step")?;
-                self.put_for_step(step)?;
+                if let Some(step) = &head.step {
+                    self.put_for_step(step.get())?;
+                }
                 self.put(" do")?;
                 self.put_stmt(turn.get())?;
                 self.put(")")
             }
-            Stmt::RangeFor(_, of_type, Identifier { span, .. }, over, turn) => {
+            Stmt::RangeFor(_, head, turn) => {
                 self.put("(each")?;
-                self.put_words(of_type.span())?;
+                self.put_words(head.of_type.get().span())?;
                 self.put(",")?;
-                self.put_words(*span)?;
+                self.put_words(head.name.span)?;
                 self.put(" of")?;
-                self.put_words(over.span())?;
+                self.put_words(head.over.get().span())?;
                 self.put(" do")?;
                 self.put_stmt(turn.get())?;
                 self.put(")")
