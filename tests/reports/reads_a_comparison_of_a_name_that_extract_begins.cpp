@@ -1,0 +1,1 @@
+constexpr bool b = extract::a < c;
