@@ -2,6 +2,7 @@
 
 ghost use Rattle.std.specs.Prelude.{◌≡◌, ◌≤◌};
 ghost use Rattle.cxx_grammar.specs.Declarations as spec;
+ghost use Rattle.cxx_grammar.specs.Statements as statements;
 ghost use Rattle.cxx_reading.specs.Reading.{Tree, Gives};
 ghost use Rattle.parse_decl.specs.Joined as joined;
 
@@ -36,6 +37,20 @@ fn without_body(
     Ok((None, end))
 }
 
+/// A body, in its box.
+pub fn boxed_body(
+    alloc: Global,
+    tokens: &Tokens,
+    start: u32,
+    level: u32,
+) -> Result<(Boxed<BodyTree>, u32), Fault>
+    requires { level ≤ 256 }
+    ensures { Gives (statements.body tokens.now level start) result }
+{
+    let (x, end) = body(alloc, tokens, start, level)?;
+    Ok((Boxed::new(alloc, x)?, end))
+}
+
 #[tactic(auto, unfolding(cxx_grammar::specs::Declarations::with_body))]
 fn with_body(
     alloc: Global,
@@ -46,8 +61,8 @@ fn with_body(
     requires { level ≤ 256 }
     ensures { Gives (spec.with_body tokens.now level start) result }
 {
-    let (x, end) = body(alloc, tokens, start, level)?;
-    Ok((Some(Boxed::new(alloc, x)?), end))
+    let (x, end) = boxed_body(alloc, tokens, start, level)?;
+    Ok((Some(x), end))
 }
 
 #[tactic(auto, unfolding(cxx_grammar::specs::Declarations::body_or_none), using(cxx_reading::proofs::Choices::choice))]

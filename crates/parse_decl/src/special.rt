@@ -5,6 +5,7 @@ ghost use Rattle.cxx_grammar.specs.Declarations as spec;
 ghost use Rattle.cxx_reading.specs.Reading.{Gives};
 ghost use Rattle.parse_decl.specs.Joined as joined;
 
+use crate::declarator::boxed_body;
 use cxx_grammar::DeclWords;
 use cxx_reading::{Fault, eat_word, expect, identifier, span};
 use cxx_tokens::Tokens;
@@ -15,7 +16,6 @@ use parse_parts::{
     constructor_words, member_inits, no_words, parameters, specifiers_of, stand_together,
 };
 use parse_stmt::{allowed, body};
-use sqlite_items::Boxed;
 use std::alloc::Global;
 
 /// A constructor that began at `start`, behind its words.
@@ -35,8 +35,7 @@ pub fn constructor_rest(
     let (parameters, at) = parameters(alloc, tokens, at, level)?;
     let (is_noexcept, at) = eat_word(tokens, NOEXCEPT, at);
     let (inits, at) = member_inits(alloc, tokens, at, level)?;
-    let (body, end) = body(alloc, tokens, at, level)?;
-    let body = Boxed::new(alloc, body)?;
+    let (body, end) = boxed_body(alloc, tokens, at, level)?;
     let tree = ConstructorTree {
         span: span(tokens, start, end),
         is_explicit: words.is_explicit,

@@ -69,7 +69,7 @@ module _ (tokens : Tokens) where
 
   name_skipped : (i : ℕ) → skipped (any_name tokens i) ≡ behind_name tokens i
   unfolding any_name behind_name
-  name_skipped i = simp assoc (pointwise (present (punctuator tokens mark.SCOPE) i) _ _ (λ r j. pointwise (identifier tokens j) _ _ (λ f k. parts_skipped (f ∷ []) k)))
+  name_skipped i = simp assoc (pointwise (present (punctuator tokens mark.SCOPE) i) _ _ (λ r j. pointwise (identifier tokens j) _ _ (λ f k. parts_skipped [] k)))
 
   declares_same : {A : Type 0} (e : End A) → declares tokens (skipped e) ≡ declares tokens e
   declares_same (Tree a j) = refl

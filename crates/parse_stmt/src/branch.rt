@@ -6,30 +6,31 @@ ghost use Rattle.cxx_reading.specs.Reading.{Gives, optional};
 ghost use Rattle.parse_stmt.specs.Joined as joined;
 ghost use Rattle.parse_stmt.specs.Readers.{LoopReader, inner};
 
-use crate::made::{self, Branches};
 use crate::reader::StmtReader;
 use cxx_reading::{Fault, expect, expect_word, span};
 use cxx_tokens::Tokens;
 use cxx_tokens::keyword::{ELSE, IF, WHILE};
 use cxx_tokens::mark::{LEFT_PAREN, RIGHT_PAREN};
-use cxx_tree::{BodyTree, Expr, Stmt};
+use cxx_tree::{BodyTree, Stmt};
 use parse_expr::expression;
+use sqlite_items::Boxed;
 use std::alloc::Global;
 
 impl<
     B: Fn(Global, &Tokens, u32, u32, bool) -> Result<(BodyTree, u32), Fault>,
     S: Fn(Global, &Tokens, u32, u32, bool) -> Result<(Stmt, u32), Fault>,
 > StmtReader<'_, B, S> {
-    /// A statement within a statement, one level deeper.
-    pub fn deep_sub(&self, at: u32, in_loop: bool) -> Result<(Stmt, u32), Fault>
+    /// A statement within a statement, one level deeper, in its box.
+    pub fn deep_sub(&self, at: u32, in_loop: bool) -> Result<(Boxed<Stmt>, u32), Fault>
         requires low { self.now.level ≤ 256 }
         requires subs { LoopReader self.now.tokens.now (self.now.level + 1) (inner self.now.tokens.now self.now.level).sub (S.pre self.now.sub) (S.post self.now.sub) }
         ensures { Gives ((inner self.now.tokens.now self.now.level).sub in_loop at) result }
     {
-        (self.sub)(self.alloc, self.tokens, at, self.level + 1, in_loop)
+        let (x, end) = (self.sub)(self.alloc, self.tokens, at, self.level + 1, in_loop)?;
+        Ok((Boxed::new(self.alloc, x)?, end))
     }
 
-    fn else_part(&self, at: u32, in_loop: bool) -> Result<(Stmt, u32), Fault>
+    fn else_part(&self, at: u32, in_loop: bool) -> Result<(Boxed<Stmt>, u32), Fault>
         requires low { self.now.level ≤ 256 }
         requires subs { LoopReader self.now.tokens.now (self.now.level + 1) (inner self.now.tokens.now self.now.level).sub (S.pre self.now.sub) (S.post self.now.sub) }
         ensures { Gives (joined.else_part self.now.tokens.now ((inner self.now.tokens.now self.now.level).sub in_loop) at) result }
@@ -39,7 +40,7 @@ impl<
     }
 
     #[tactic(auto, unfolding(cxx_reading::specs::Reading::optional))]
-    fn else_if_any(&self, at: u32, in_loop: bool) -> Result<(Option<Stmt>, u32), Fault>
+    fn else_if_any(&self, at: u32, in_loop: bool) -> Result<(Option<Boxed<Stmt>>, u32), Fault>
         requires low { self.now.level ≤ 256 }
         requires subs { LoopReader self.now.tokens.now (self.now.level + 1) (inner self.now.tokens.now self.now.level).sub (S.pre self.now.sub) (S.post self.now.sub) }
         ensures { Gives (optional (joined.else_part self.now.tokens.now ((inner self.now.tokens.now self.now.level).sub in_loop)) at) result }
@@ -65,9 +66,8 @@ impl<
         let at = expect(self.tokens, RIGHT_PAREN, at)?;
         let (holds, at) = self.deep_sub(at, in_loop)?;
         let (fails, end) = self.else_if_any(at, in_loop)?;
-        let branches = Branches { holds, fails };
         let span = span(self.tokens, start, end);
-        Ok((made::if_else(self.alloc, span, condition, branches)?, end))
+        Ok((Stmt::If(span, condition, holds, fails), end))
     }
 
     #[tactic(auto, unfolding(crate::specs::Joined::while_stmt))]
@@ -83,6 +83,6 @@ impl<
         let at = expect(self.tokens, RIGHT_PAREN, at)?;
         let (turn, end) = self.deep_sub(at, true)?;
         let span = span(self.tokens, start, end);
-        Ok((made::while_turn(self.alloc, span, condition, turn)?, end))
+        Ok((Stmt::While(span, condition, turn), end))
     }
 }

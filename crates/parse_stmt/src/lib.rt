@@ -18,7 +18,6 @@ mod forms;
 mod initializer;
 mod local;
 mod loops;
-mod made;
 mod nested;
 mod operators;
 mod reader;

@@ -11,7 +11,6 @@ ghost use Rattle.parse_stmt.specs.Readers.{LoopReader, inner};
 use crate::assign::{assign, closed};
 use crate::begins::begins_local;
 use crate::local::{Declared, local, local_rest};
-use crate::made;
 use crate::nested::TOO_DEEP;
 use crate::reader::StmtReader;
 use cxx_reading::{Fault, expect, expect_word, identifier, longer, sees, sees_word, span};
@@ -129,7 +128,7 @@ impl<
             step,
         };
         let span = span(self.tokens, start, end);
-        Ok((made::for_turn(self.alloc, span, head, turn)?, end))
+        Ok((Stmt::For(span, head, turn), end))
     }
 
     #[tactic(auto, unfolding(crate::specs::Joined::range_rest))]
@@ -148,15 +147,16 @@ impl<
     {
         let at = expect(self.tokens, COLON, at)?;
         let (over, at) = expression(self.alloc, self.tokens, at, within)?;
+        let over = Boxed::new(self.alloc, over)?;
         let at = expect(self.tokens, RIGHT_PAREN, at)?;
         let (turn, end) = self.deep_sub(at, true)?;
-        let range = ForRange {
+        let head = ForRange {
             of_type,
             name,
-            over: Boxed::new(self.alloc, over)?,
+            over,
         };
         let span = span(self.tokens, start, end);
-        Ok((made::range_turn(self.alloc, span, range, turn)?, end))
+        Ok((Stmt::RangeFor(span, head, turn), end))
     }
 
     // A declaration that goes on behind its name.
