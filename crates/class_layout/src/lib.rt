@@ -4,8 +4,6 @@
 mod arrange;
 mod laws;
 mod part;
-#[cfg(test)]
-mod tests;
 
 pub use arrange::layout;
 pub use laws::{is_the_least, no_two_overlap, parts_are_in_order, whole_is_aligned};

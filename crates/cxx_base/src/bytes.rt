@@ -7,9 +7,15 @@ use std::alloc::Global;
 use std::marker::Model;
 
 /// Bytes in order, as of a source text or a report. Contracts see the list of them.
-#[derive(Debug, Drop)]
+#[derive(Debug)]
 pub struct Bytes {
     bytes: Vec<u8>,
+}
+
+impl Drop for Bytes {
+    fn drop(self) {
+        let Bytes { bytes: _ } = self;
+    }
 }
 
 impl Model for Bytes {

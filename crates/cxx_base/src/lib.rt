@@ -24,6 +24,3 @@ pub use outcome_list::OutcomeList;
 pub use place::{Place, Span};
 pub use refusal::{Code, Refusal};
 pub use ticks::Ticks;
-
-#[cfg(test)]
-mod tests;

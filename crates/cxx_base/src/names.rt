@@ -15,9 +15,14 @@ pub struct Name(pub u32);
 
 /// The names of a source: a list of texts without repeats. The number of a name is its place, which it keeps.
 /// Contracts see the list.
-#[derive(Drop)]
 pub struct Names {
     texts: IndexSet<String>,
+}
+
+impl Drop for Names {
+    fn drop(self) {
+        let Names { texts: _ } = self;
+    }
 }
 
 impl Model for Names {

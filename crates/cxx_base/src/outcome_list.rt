@@ -7,9 +7,15 @@ use crate::number::PieceNo;
 use std::marker::Model;
 
 /// Outcomes in the order of their pieces. Contracts see the list of them.
-#[derive(Debug, Drop)]
+#[derive(Debug)]
 pub struct OutcomeList<O> {
     outcomes: Vec<O>,
+}
+
+impl<O: Drop> Drop for OutcomeList<O> {
+    fn drop(self) {
+        let OutcomeList { outcomes: _ } = self;
+    }
 }
 
 impl<O> Model for OutcomeList<O> {

@@ -5,9 +5,15 @@ ghost use Rattle.std.specs.Prelude.{◌≡◌, ◌+◌, ◌^◌, ◌<◌};
 use std::marker::Model;
 
 /// How many steps were used. Contracts see the number.
-#[derive(Debug, Drop)]
+#[derive(Debug)]
 pub struct Ticks {
     count: u64,
+}
+
+impl Drop for Ticks {
+    fn drop(self) {
+        let Ticks { count: _ } = self;
+    }
 }
 
 impl Model for Ticks {

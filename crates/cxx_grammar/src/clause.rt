@@ -1,7 +1,7 @@
 //! Clauses of a braced list.
 
+use containers::Items;
 use cxx_tree::{ArgTree, Designator};
-use sqlite_items::Items;
 
 /// A clause, which has a designator or none.
 #[derive(Drop)]

@@ -20,6 +20,3 @@ pub use seen::{Seen, kind_ahead, kind_at, sees, sees_identifier, sees_word};
 pub use step::{
     character, eat, eat_word, expect, expect_word, identifier, integer, left, span, text,
 };
-
-#[cfg(test)]
-mod tests;

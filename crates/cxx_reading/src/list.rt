@@ -2,7 +2,7 @@
 
 ghost use Rattle.std.specs.Prelude.{◌≡◌, ◌++◌, ◌∷◌, [], IfOk, OnOk, OnErr};
 
-use sqlite_items::Items;
+use containers::Items;
 use std::alloc::{AllocError, Global};
 
 /// Puts a tree at the end of a list. The first takes room for itself alone, as most lists in a tree have no more than one part.

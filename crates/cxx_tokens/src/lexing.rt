@@ -23,9 +23,9 @@ use crate::run::{Class, past, run};
 use crate::text::{Cut, after, after_one, end_of, front, split_first, without_byte_order_mark};
 use crate::token::{Token, TokenKind, Tokens};
 use crate::word::reserved;
+use containers::Items;
 use cxx_base::{MAX_IDENTIFIER, Names, Place, Span};
 use int_kinds::literal_kind;
-use sqlite_items::Items;
 use std::alloc::{AllocError, Global};
 use unicode_normalization::is_nfc;
 

@@ -22,6 +22,3 @@ pub use fault::LexFault;
 pub use laws::{numbers_are_places, tokens_are_longest};
 pub use lexing::tokens;
 pub use token::{Token, TokenKind, Tokens};
-
-#[cfg(test)]
-mod tests;

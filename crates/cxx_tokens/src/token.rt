@@ -2,11 +2,11 @@
 
 ghost use Rattle.std.specs.Prelude.{◌<◌, ◌^◌, length};
 
+use containers::Items;
 use cxx_base::{Bytes, Name, Place, Span};
-use sqlite_items::Items;
 
 /// What a token is ([lex.token]).
-#[derive(Debug, Drop)]
+#[derive(Debug)]
 pub enum TokenKind {
     /// An identifier, by the number of its text.
     Identifier(Name),
@@ -28,17 +28,47 @@ pub enum TokenKind {
     Text(Bytes),
 }
 
+impl Drop for TokenKind {
+    fn drop(self) {
+        match self {
+            TokenKind::Identifier(_) => {}
+            TokenKind::Word(_) => {}
+            TokenKind::Punctuator(_) => {}
+            TokenKind::Integer {
+                decimal: _,
+                unsigned: _,
+                longs: _,
+                n: _,
+            } => {}
+            TokenKind::Character(_) => {}
+            TokenKind::Text(_) => {}
+        }
+    }
+}
+
 /// A token, and where it stands. Token number n has the tokens from n up to n + 1 in its span.
-#[derive(Debug, Drop)]
+#[derive(Debug)]
 pub struct Token {
     pub kind: TokenKind,
     pub span: Span,
 }
 
+impl Drop for Token {
+    fn drop(self) {
+        let Token { kind: _, span: _ } = self;
+    }
+}
+
 /// The tokens of a text, and the place just past its last character. There are so few that a `u32` numbers them.
-#[derive(Debug, Drop)]
+#[derive(Debug)]
 pub struct Tokens {
     pub list: Items<Token>,
     pub end: Place,
     pub ghost short: { length list < 2 ^ 32 },
+}
+
+impl Drop for Tokens {
+    fn drop(self) {
+        let Tokens { list: _, end: _ } = self;
+    }
 }

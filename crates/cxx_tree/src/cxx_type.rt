@@ -1,15 +1,24 @@
 //! Types.
 
+use containers::Items;
 use cxx_base::{EntityNo, IntKind};
-use sqlite_items::Items;
 
 /// A type ([basic.types]): what it is made of, whether that is const, and the pointers, references and arrays over it,
 /// the innermost first. `const char *const &` is char, const, and the layers of a const pointer and a reference.
-#[derive(Drop)]
 pub struct CxxType {
     pub basic: BasicType,
     pub is_const: bool,
     pub layers: Items<Layer>,
+}
+
+impl Drop for CxxType {
+    fn drop(self) {
+        let CxxType {
+            basic: _,
+            is_const: _,
+            layers: _,
+        } = self;
+    }
 }
 
 /// What a type is made of. Types of the library beside the fundamental ones are those of `std` and `std::meta`.

@@ -1,7 +1,7 @@
 //! Identifiers and names.
 
+use containers::Items;
 use cxx_base::{Name, Span};
-use sqlite_items::Items;
 
 /// An identifier in the source ([lex.name]), with its token.
 #[derive(Clone, Copy, Debug, PartialEq, Eq)]
@@ -12,10 +12,20 @@ pub struct Identifier {
 
 /// A name ([expr.prim.id]): whether `::` begins it, its first part, and the parts behind `::`. Most names have no more than the first,
 /// and then no list.
-#[derive(Drop)]
 pub struct NameTree {
     pub span: Span,
     pub rooted: bool,
     pub first: Identifier,
     pub more: Items<Identifier>,
+}
+
+impl Drop for NameTree {
+    fn drop(self) {
+        let NameTree {
+            span: _,
+            rooted: _,
+            first: _,
+            more: _,
+        } = self;
+    }
 }

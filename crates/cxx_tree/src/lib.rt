@@ -36,6 +36,3 @@ pub use stmt::{
     Returned, StepOp, Stmt,
 };
 pub use types::Fund;
-
-#[cfg(test)]
-mod tests;

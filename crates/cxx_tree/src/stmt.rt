@@ -3,13 +3,12 @@
 use crate::decl::{AliasTree, AssertTree};
 use crate::expr::{ArgTree, BracedTree, Expr, TypeTree};
 use crate::identifier::Identifier;
+use containers::{Boxed, Items};
 use cxx_base::{IntOp, Span};
-use sqlite_items::{Boxed, Items};
 
 /// A statement ([stmt]). The large parts of its forms are boxed in the types of these forms, so that a short statement is not
 /// as large as the largest.
 #[cycle(statement)]
-#[derive(Drop)]
 pub enum Stmt {
     Body(BodyTree),
     /// `;`
@@ -31,42 +30,105 @@ pub enum Stmt {
     Continue(Span),
 }
 
+impl Drop for Stmt {
+    #[cycle(dropping_statement)]
+    fn drop(self) {
+        match self {
+            Stmt::Body(_) => {}
+            Stmt::Empty(_) => {}
+            Stmt::Assert(_) => {}
+            Stmt::Alias(_) => {}
+            Stmt::Local(_) => {}
+            Stmt::Assign(_) => {}
+            Stmt::Expr(_, _) => {}
+            Stmt::If(_, _, _, _) => {}
+            Stmt::While(_, _, _) => {}
+            Stmt::For(_, _, _) => {}
+            Stmt::RangeFor(_, _, _) => {}
+            Stmt::Return(_, _) => {}
+            Stmt::Break(_) => {}
+            Stmt::Continue(_) => {}
+        }
+    }
+}
+
 /// Statements in braces ([stmt.block]).
 #[cycle(statement)]
-#[derive(Drop)]
 pub enum BodyTree {
     Body(Span, Items<Stmt>),
 }
 
+impl Drop for BodyTree {
+    #[cycle(dropping_statement)]
+    fn drop(self) {
+        let BodyTree::Body(_, _) = self;
+    }
+}
+
 /// What `return` gives ([stmt.return]).
-#[derive(Drop)]
 pub enum Returned {
     Expr(Expr),
     Braced(BracedTree),
 }
 
+impl Drop for Returned {
+    fn drop(self) {
+        match self {
+            Returned::Expr(_) => {}
+            Returned::Braced(_) => {}
+        }
+    }
+}
+
 /// The head of a `for` ([stmt.for]): its first statement, its condition, and what it does after each turn.
-#[derive(Drop)]
 pub struct ForHead {
     pub first: Boxed<ForInit>,
     pub condition: Option<Boxed<Expr>>,
     pub step: Option<Boxed<ForStep>>,
 }
 
+impl Drop for ForHead {
+    fn drop(self) {
+        let ForHead {
+            first: _,
+            condition: _,
+            step: _,
+        } = self;
+    }
+}
+
 /// The head of a `for` over a range ([stmt.ranged]): the type and the name of the element, and what is gone over.
-#[derive(Drop)]
 pub struct ForRange {
     pub of_type: Boxed<TypeTree>,
     pub name: Identifier,
     pub over: Boxed<Expr>,
 }
 
+impl Drop for ForRange {
+    fn drop(self) {
+        let ForRange {
+            of_type: _,
+            name: _,
+            over: _,
+        } = self;
+    }
+}
+
 /// The first statement in the head of a `for` ([stmt.for]).
-#[derive(Drop)]
 pub enum ForInit {
     Local(LocalTree),
     Assign(AssignTree),
     Empty(Span),
+}
+
+impl Drop for ForInit {
+    fn drop(self) {
+        match self {
+            ForInit::Local(_) => {}
+            ForInit::Assign(_) => {}
+            ForInit::Empty(_) => {}
+        }
+    }
 }
 
 /// What a `for` does after each turn.
@@ -78,7 +140,6 @@ pub enum ForStep {
 
 /// A variable in a body: whether it is constexpr, its type, its bounds from left to right, of which a first one may be
 /// empty, and its initializer.
-#[derive(Drop)]
 pub struct LocalTree {
     pub span: Span,
     pub is_constexpr: bool,
@@ -88,23 +149,49 @@ pub struct LocalTree {
     pub init: Option<Boxed<InitTree>>,
 }
 
+impl Drop for LocalTree {
+    fn drop(self) {
+        let LocalTree {
+            span: _,
+            is_constexpr: _,
+            of_type: _,
+            name: _,
+            bounds: _,
+            init: _,
+        } = self;
+    }
+}
+
 /// `[ expr ]` of a declarator ([dcl.array]), or `[ ]`.
-#[derive(Drop)]
 pub struct BoundTree {
     pub span: Span,
     pub length: Option<Expr>,
 }
 
+impl Drop for BoundTree {
+    fn drop(self) {
+        let BoundTree { span: _, length: _ } = self;
+    }
+}
+
 /// An initializer ([dcl.init]): `= expr`, `= braced`, or `braced`.
-#[derive(Drop)]
 pub enum InitTree {
     Equal(Expr),
     EqualBraced(BracedTree),
     Braced(BracedTree),
 }
 
+impl Drop for InitTree {
+    fn drop(self) {
+        match self {
+            InitTree::Equal(_) => {}
+            InitTree::EqualBraced(_) => {}
+            InitTree::Braced(_) => {}
+        }
+    }
+}
+
 /// An assignment ([expr.assign]). It is no expression here.
-#[derive(Drop)]
 pub enum AssignTree {
     /// `unary = expr` or `unary = braced`
     Equal(Span, Expr, Boxed<ArgTree>),
@@ -112,6 +199,16 @@ pub enum AssignTree {
     Compound(Span, IntOp, Expr, Boxed<Expr>),
     /// `++ unary`, `-- unary`, `unary ++` or `unary --`.
     Step(Span, StepOp, Expr),
+}
+
+impl Drop for AssignTree {
+    fn drop(self) {
+        match self {
+            AssignTree::Equal(_, _, _) => {}
+            AssignTree::Compound(_, _, _, _) => {}
+            AssignTree::Step(_, _, _) => {}
+        }
+    }
 }
 
 /// Adds or takes away one ([expr.pre.incr], [expr.post.incr]).

@@ -2,8 +2,6 @@
 #![tactic(auto)]
 
 mod code_name;
-#[cfg(test)]
-mod tests;
 mod texts;
 
 pub use code_name::name;

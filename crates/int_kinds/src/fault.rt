@@ -10,7 +10,6 @@ pub enum ArithFault {
     /// The least value of the kind is divided by -1, by `/` or `%`, so the quotient is not a value of the kind
     /// ([expr.mul]).
     LeastByMinusOne,
-    /// A shift's count is negative, or not below the width of the left side ([expr.shift]). No operator gives
-    /// it so far, since shifts have no rules here yet.
+    /// The count of `<<` or `>>` is negative, or not below the width of the left side ([expr.shift]).
     ShiftCount,
 }

@@ -5,14 +5,10 @@
 mod fault;
 mod int;
 mod kind;
-#[cfg(test)]
-mod kind_tests;
 mod laws;
 mod literal;
 mod operate;
 mod promotion;
-#[cfg(test)]
-mod tests;
 
 pub use cxx_base::{CompareOp, IntKind, IntOp};
 pub use fault::ArithFault;

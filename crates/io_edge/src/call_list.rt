@@ -7,9 +7,15 @@ use std::alloc::Global;
 use std::marker::Model;
 
 /// Numbers of calls, counted from 1. Contracts see the list of them.
-#[derive(Debug, Drop)]
+#[derive(Debug)]
 pub struct CallList {
     calls: Vec<u64>,
+}
+
+impl Drop for CallList {
+    fn drop(self) {
+        let CallList { calls: _ } = self;
+    }
 }
 
 impl Model for CallList {

@@ -10,8 +10,6 @@ mod from_read;
 mod mem_sink;
 mod mem_source;
 mod reading;
-#[cfg(test)]
-mod tests;
 mod to_write;
 mod writing;
 

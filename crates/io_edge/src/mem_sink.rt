@@ -15,13 +15,25 @@ use std::marker::Model;
 /// A list of bytes in memory as a sink. With a room it takes at most as many bytes, and no write
 /// takes memory. It fails at the calls that are listed and where nothing fits, and always tells
 /// what it holds.
-#[derive(Debug, Drop)]
+#[derive(Debug)]
 pub struct MemSink {
     held: Vec<u8>,
     room: Option<usize>,
     failing: CallList,
     calls: u64,
     faults: u64,
+}
+
+impl Drop for MemSink {
+    fn drop(self) {
+        let MemSink {
+            held: _,
+            room: _,
+            failing: _,
+            calls: _,
+            faults: _,
+        } = self;
+    }
 }
 
 impl Model for MemSink {

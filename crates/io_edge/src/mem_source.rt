@@ -11,7 +11,7 @@ use std::marker::Model;
 
 /// Bytes in memory as a source. It gives at most `piece` bytes in a call, fails exactly at the
 /// calls that are listed, and always tells what is left.
-#[derive(Debug, Drop)]
+#[derive(Debug)]
 pub struct MemSource {
     bytes: Bytes,
     // How many of `bytes` were read.
@@ -20,6 +20,19 @@ pub struct MemSource {
     failing: CallList,
     calls: u64,
     faults: u64,
+}
+
+impl Drop for MemSource {
+    fn drop(self) {
+        let MemSource {
+            bytes: _,
+            at: _,
+            piece: _,
+            failing: _,
+            calls: _,
+            faults: _,
+        } = self;
+    }
 }
 
 impl Model for MemSource {

@@ -12,6 +12,7 @@ use crate::member::{
     member_declared,
 };
 use crate::named::are_named;
+use containers::Items;
 use cxx_reading::{Fault, Seen, expect, identifier, kind_ahead, kind_at, left, single, span};
 use cxx_tokens::Tokens;
 use cxx_tokens::keyword::{
@@ -21,7 +22,6 @@ use cxx_tokens::mark::{LEFT_BRACE, RIGHT_BRACE, SEMICOLON};
 use cxx_tree::{ClassTree, Member};
 use parse_parts::{bases, key};
 use parse_stmt::allowed;
-use sqlite_items::Items;
 use std::alloc::Global;
 
 // The first level that is too deep.

@@ -7,6 +7,7 @@ ghost use Rattle.parse_decl.specs.Joined as joined;
 
 use crate::declarator::{Head, function_rest, variable_rest};
 use crate::member::block;
+use containers::Boxed;
 use cxx_grammar::DeclWords;
 use cxx_reading::{Fault, identifier, sees};
 use cxx_tokens::Tokens;
@@ -15,7 +16,6 @@ use cxx_tree::Decl;
 use parse_expr::type_at;
 use parse_parts::{enumeration, namespace_alias, no_words, specifiers};
 use parse_stmt::{alias_at, assert_at};
-use sqlite_items::Boxed;
 use std::alloc::Global;
 
 #[tactic(auto, unfolding(crate::specs::Joined::function_behind))]

@@ -6,6 +6,7 @@ ghost use Rattle.cxx_grammar.specs.Statements as statements;
 ghost use Rattle.cxx_reading.specs.Reading.{Tree, Gives};
 ghost use Rattle.parse_decl.specs.Joined as joined;
 
+use containers::Boxed;
 use cxx_grammar::DeclWords;
 use cxx_reading::{Fault, eat_word, expect, longer, span};
 use cxx_tokens::Tokens;
@@ -14,7 +15,6 @@ use cxx_tokens::mark::SEMICOLON;
 use cxx_tree::{BodyTree, FunctionTree, Identifier, TypeTree, VariableTree};
 use parse_parts::{fit_words, parameters, specifiers_of, stand_together};
 use parse_stmt::{allowed, body, bounds, fit_bounds, init_if_any};
-use sqlite_items::Boxed;
 use std::alloc::Global;
 
 /// What stands before the rest of a declaration.

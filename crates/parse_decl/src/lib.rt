@@ -12,6 +12,3 @@ mod units;
 
 pub use syntax_fault::SyntaxFault;
 pub use units::unit;
-
-#[cfg(test)]
-mod tests;

@@ -7,6 +7,7 @@ ghost use Rattle.parse_decl.specs.Joined as joined;
 
 use crate::declarator::{Head, function_rest, variable_rest};
 use crate::special::{constructor, constructor_rest, destructor_rest};
+use containers::Boxed;
 use cxx_grammar::DeclWords;
 use cxx_reading::{
     Fault, Seen, expect, expect_word, identifier, kind_ahead, sees, sees_identifier, sees_word,
@@ -19,7 +20,6 @@ use cxx_tree::{BlockTree, Member};
 use parse_expr::type_at;
 use parse_parts::{access, enumeration, no_words, specifiers};
 use parse_stmt::{alias_at, assert_at, body};
-use sqlite_items::Boxed;
 use std::alloc::Global;
 
 /// `public:`, `protected:` or `private:`.

@@ -12,13 +12,13 @@ use crate::declaration::{
     alias_decl, assert_decl, block_decl, declared, enum_decl, namespace_decl,
 };
 use crate::syntax_fault::SyntaxFault;
+use containers::{Boxed, Items};
 use cxx_reading::{Fault, Seen, expect, expect_word, identifier, kind_at, single, span};
 use cxx_tokens::Tokens;
 use cxx_tokens::keyword::{CLASS, CONSTEVAL, ENUM, NAMESPACE, STATIC_ASSERT, STRUCT, USING};
 use cxx_tokens::mark::{EQUAL, LEFT_BRACE, RIGHT_BRACE, SEMICOLON};
 use cxx_tree::{Decl, Item, Unit};
 use parse_type::parts;
-use sqlite_items::{Boxed, Items};
 use std::alloc::Global;
 
 #[tactic(auto, unfolding(cxx_grammar::specs::Declarations::class_decl))]

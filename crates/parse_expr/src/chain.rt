@@ -11,11 +11,11 @@ ghost use Rattle.cxx_reading.specs.Reading.{repeated};
 use crate::made;
 use crate::operator::{line, next_line};
 use crate::reader::ExprReader;
+use containers::Items;
 use cxx_grammar::SizedOperand;
 use cxx_reading::{Fault, left, push, span};
 use cxx_tokens::Tokens;
 use cxx_tree::{BracedTree, Expr, Operation, TypeTree};
-use sqlite_items::Items;
 use std::alloc::Global;
 
 impl<

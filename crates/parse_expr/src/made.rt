@@ -5,10 +5,10 @@ ghost use Rattle.cxx_grammar.specs.Expressions.{with_operations, with_arms};
 ghost use Rattle.cxx_grammar.specs.Unaries.{sizeof_of};
 ghost use Rattle.cxx_tree.specs.declared.expr.Expr.TheVariants as expr_of;
 
+use containers::{Boxed, Items};
 use cxx_base::Span;
 use cxx_grammar::{Arms, SizedOperand};
 use cxx_tree::{Expr, NewInit, Operation, TypeTree};
-use sqlite_items::{Boxed, Items};
 use std::alloc::{AllocError, Global};
 
 fn sizeof_type(alloc: Global, span: Span, x: TypeTree) -> Result<Expr, AllocError>

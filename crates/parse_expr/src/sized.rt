@@ -7,6 +7,7 @@ ghost use Rattle.cxx_reading.specs.Reading.{Gives};
 ghost use Rattle.cxx_reading.specs.Readers.{Reader};
 
 use crate::reader::ExprReader;
+use containers::Items;
 use cxx_grammar::SizedOperand;
 use cxx_reading::{Fault, Seen, eat, eat_word, expect_word, kind_at, longer, span};
 use cxx_tokens::Tokens;
@@ -15,7 +16,6 @@ use cxx_tokens::mark::AMPERSAND;
 use cxx_tree::{BasicTree, BracedTree, Expr, NewInit, SpliceTree, TypeTree};
 use parse_primary::typename_made;
 use parse_type::pointers;
-use sqlite_items::Items;
 use std::alloc::Global;
 
 impl<

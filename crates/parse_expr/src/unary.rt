@@ -12,13 +12,13 @@ ghost use Rattle.cxx_reading.specs.Reading.{Steps, Tree, present};
 use crate::made::size_of;
 use crate::operator::{unary_mark, unary_operator};
 use crate::reader::ExprReader;
+use containers::Boxed;
 use cxx_grammar::SizedOperand;
 use cxx_reading::{Fault, Seen, expect, expect_word, kind_at, longer, span};
 use cxx_tokens::Tokens;
 use cxx_tokens::keyword::{DELETE, NEW, SIZEOF};
 use cxx_tokens::mark::{LEFT_BRACKET, LEFT_PAREN, REFLECT, RIGHT_BRACKET, RIGHT_PAREN, SCOPE};
 use cxx_tree::{BracedTree, Expr, TypeTree};
-use sqlite_items::Boxed;
 use std::alloc::Global;
 
 #[tactic(auto, unfolding(cxx_grammar::specs::Unaries::empty_brackets))]

@@ -6,11 +6,11 @@ ghost use Rattle.cxx_reading.specs.Reading.{Gives};
 ghost use Rattle.cxx_reading.specs.Readers.{Reader};
 
 use crate::reader::ListReader;
+use containers::Items;
 use cxx_reading::{Fault, expect, left, longer, single, span};
 use cxx_tokens::Tokens;
 use cxx_tokens::mark::{COMMA, LEFT_PAREN, RIGHT_PAREN};
 use cxx_tree::{ArgTree, ArgTrees, BracedTree, Expr};
-use sqlite_items::Items;
 use std::alloc::Global;
 
 impl<

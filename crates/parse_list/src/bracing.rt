@@ -7,12 +7,12 @@ ghost use Rattle.cxx_reading.specs.Readers.{Reader};
 
 use crate::clauses::{first_clause, with_clause};
 use crate::reader::ListReader;
+use containers::Items;
 use cxx_grammar::{Clause, Clauses};
 use cxx_reading::{Fault, eat, expect, identifier, left, longer, span};
 use cxx_tokens::Tokens;
 use cxx_tokens::mark::{COMMA, DOT, EQUAL, LEFT_BRACE, RIGHT_BRACE};
 use cxx_tree::{BracedTree, Designator, Expr};
-use sqlite_items::Items;
 use std::alloc::Global;
 
 impl<

@@ -4,10 +4,10 @@ ghost use Rattle.std.specs.Prelude.{◌≡◌, IfOk};
 ghost use Rattle.cxx_grammar.specs.Lists as spec;
 ghost use Rattle.cxx_grammar.specs.declared.clause.Clauses.TheVariants as clauses_of;
 
+use containers::Items;
 use cxx_grammar::{Clause, Clauses};
 use cxx_reading::single;
 use cxx_tree::{ArgTree, Designator};
-use sqlite_items::Items;
 use std::alloc::{AllocError, Global};
 
 /// A list of one clause.

@@ -6,13 +6,13 @@ ghost use Rattle.cxx_grammar.specs.Sequences.{next_of};
 ghost use Rattle.cxx_reading.specs.Reading.{Gives, optional};
 
 use crate::specifier::access;
+use containers::Items;
 use cxx_reading::{Fault, expect, expect_word, left, longer, single, span};
 use cxx_tokens::Tokens;
 use cxx_tokens::keyword::TYPENAME;
 use cxx_tokens::mark::{COLON, COMMA};
 use cxx_tree::{Access, BaseTree, BasedTree};
 use parse_expr::{name_at, splice_at};
-use sqlite_items::Items;
 use std::alloc::Global;
 
 #[tactic(auto, unfolding(cxx_grammar::specs::Declarations::based_name))]

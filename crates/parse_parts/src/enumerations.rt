@@ -6,13 +6,13 @@ ghost use Rattle.cxx_grammar.specs.Sequences.{next_of};
 ghost use Rattle.cxx_reading.specs.Reading.{Gives, optional};
 
 use crate::specifier::key;
+use containers::{Boxed, Items};
 use cxx_reading::{Fault, eat, expect, expect_word, identifier, left, single, span};
 use cxx_tokens::Tokens;
 use cxx_tokens::keyword::ENUM;
 use cxx_tokens::mark::{COLON, COMMA, EQUAL, LEFT_BRACE, RIGHT_BRACE, SEMICOLON};
 use cxx_tree::{ClassKey, EnumTree, EnumeratorTree, Expr, TypeTree};
 use parse_expr::{expression, type_at};
-use sqlite_items::{Boxed, Items};
 use std::alloc::Global;
 
 // The last level at which a rule may be read.

@@ -5,12 +5,12 @@ ghost use Rattle.cxx_grammar.specs.Declarations as spec;
 ghost use Rattle.cxx_grammar.specs.Sequences.{next_of};
 ghost use Rattle.cxx_reading.specs.Reading.{Gives};
 
+use containers::Items;
 use cxx_reading::{Fault, expect, left, longer, single, span};
 use cxx_tokens::Tokens;
 use cxx_tokens::mark::{COLON, COMMA};
 use cxx_tree::{MemberInit, MemberInitValue};
 use parse_expr::{args_at, braced_at, name_at};
-use sqlite_items::Items;
 use std::alloc::Global;
 
 #[tactic(auto, unfolding(cxx_grammar::specs::Declarations::value_args))]

@@ -6,12 +6,12 @@ ghost use Rattle.cxx_grammar.specs.Sequences.{next_of};
 ghost use Rattle.cxx_reading.specs.Reading as reading;
 ghost use Rattle.cxx_reading.specs.Reading.{Gives, optional};
 
+use containers::Items;
 use cxx_reading::{Fault, expect, identifier, left, single, span};
 use cxx_tokens::Tokens;
 use cxx_tokens::mark::{COMMA, LEFT_PAREN, RIGHT_PAREN};
 use cxx_tree::{Identifier, ParameterTree};
 use parse_expr::type_at;
-use sqlite_items::Items;
 use std::alloc::Global;
 
 #[tactic(auto, unfolding(cxx_reading::specs::Reading::optional))]

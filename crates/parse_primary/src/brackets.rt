@@ -8,13 +8,13 @@ ghost use Rattle.cxx_reading.specs.Readers.{Reader};
 
 use crate::made::{braced, static_cast};
 use crate::reader::PrimaryReader;
+use containers::Boxed;
 use cxx_reading::{Fault, expect, expect_word, span};
 use cxx_tokens::Tokens;
 use cxx_tokens::keyword::STATIC_CAST;
 use cxx_tokens::mark::{GREATER, LEFT_PAREN, LESS, RIGHT_PAREN};
 use cxx_tree::{BracedTree, Expr};
 use parse_type::basic_vector;
-use sqlite_items::Boxed;
 use std::alloc::Global;
 
 impl<

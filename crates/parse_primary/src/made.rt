@@ -5,11 +5,11 @@ ghost use Rattle.cxx_grammar.specs.Joined as spec;
 ghost use Rattle.cxx_grammar.specs.Postfixes.{with_suffixes};
 ghost use Rattle.cxx_tree.specs.declared.expr.Expr.TheVariants as expr_of;
 
+use containers::{Boxed, Items};
 use cxx_base::Span;
 use cxx_tree::{
     ArgTrees, BasicTree, BracedTree, Expr, Fund, NameTree, NewInit, SpliceTree, Suffix, TypeTree,
 };
-use sqlite_items::{Boxed, Items};
 use std::alloc::{AllocError, Global};
 
 pub fn braced(
@@ -47,9 +47,9 @@ pub fn fund_made(
 ) -> Result<Expr, AllocError>
     ensures { IfOk result (λ made. made ≡ spec.fund_made span basic fund init) }
 {
-    match init {
-        NewInit::Args(x) => Ok(Expr::FundCall(span, fund, x)),
-        NewInit::Braced(x) => braced(alloc, span, BasicTree::Fund(basic, fund), x),
+    match init.into_args() {
+        Ok(x) => Ok(Expr::FundCall(span, fund, x)),
+        Err(x) => braced(alloc, span, BasicTree::Fund(basic, fund), x),
     }
 }
 
@@ -63,9 +63,9 @@ pub fn typename_made(
 ) -> Result<Expr, AllocError>
     ensures { IfOk result (λ made. made ≡ spec.typename_made span basic splice init) }
 {
-    match init {
-        NewInit::Args(x) => typename_call(alloc, span, splice, x),
-        NewInit::Braced(x) => braced(alloc, span, BasicTree::Typename(basic, splice), x),
+    match init.into_args() {
+        Ok(x) => typename_call(alloc, span, splice, x),
+        Err(x) => braced(alloc, span, BasicTree::Typename(basic, splice), x),
     }
 }
 

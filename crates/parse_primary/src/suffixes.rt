@@ -8,11 +8,11 @@ ghost use Rattle.cxx_reading.specs.Readers.{Reader};
 
 use crate::made;
 use crate::reader::PrimaryReader;
+use containers::{Boxed, Items};
 use cxx_reading::{Fault, Seen, expect, identifier, kind_at, left, longer, push, span};
 use cxx_tokens::Tokens;
 use cxx_tokens::mark::{ARROW, DOT, LEFT_BRACKET, LEFT_PAREN, RIGHT_BRACKET};
 use cxx_tree::{BracedTree, Expr, Suffix};
-use sqlite_items::{Boxed, Items};
 use std::alloc::Global;
 
 fn dot(tokens: &Tokens, at: u32) -> Result<(bool, u32), Fault>

@@ -6,13 +6,13 @@ ghost use Rattle.cxx_grammar.specs.Statements as spec;
 ghost use Rattle.cxx_reading.specs.Reading.{Gives, Tree, and_then};
 ghost use Rattle.cxx_tree.specs.declared.decl.AliasedTree.TheVariants as aliased_of;
 
+use containers::Boxed;
 use cxx_reading::{Fault, expect, expect_word, identifier, longer, span};
 use cxx_tokens::Tokens;
 use cxx_tokens::keyword::USING;
 use cxx_tokens::mark::{EQUAL, SEMICOLON};
 use cxx_tree::{AliasTree, AliasedTree};
 use parse_expr::{splice_at, type_at};
-use sqlite_items::Boxed;
 use std::alloc::Global;
 
 fn aliased_type(

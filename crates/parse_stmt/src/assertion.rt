@@ -5,6 +5,7 @@ ghost use Rattle.cxx_grammar.specs.Statements as spec;
 ghost use Rattle.cxx_reading.specs.Reading.{Gives, optional};
 ghost use Rattle.parse_stmt.specs.Joined as joined;
 
+use containers::Boxed;
 use cxx_base::Bytes;
 use cxx_reading::{Fault, expect, expect_word, span, text};
 use cxx_tokens::Tokens;
@@ -12,7 +13,6 @@ use cxx_tokens::keyword::STATIC_ASSERT;
 use cxx_tokens::mark::{COMMA, LEFT_PAREN, RIGHT_PAREN, SEMICOLON};
 use cxx_tree::AssertTree;
 use parse_expr::expression;
-use sqlite_items::Boxed;
 use std::alloc::Global;
 
 // "," STRING

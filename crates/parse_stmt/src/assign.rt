@@ -9,12 +9,12 @@ ghost use Rattle.parse_stmt.specs.Joined as joined;
 
 use crate::nested::{TOO_DEEP, deep_unary};
 use crate::operators::{assigns, before, behind, compound, is_step};
+use containers::Boxed;
 use cxx_reading::{Fault, expect, longer, sees, span};
 use cxx_tokens::Tokens;
 use cxx_tokens::mark::EQUAL;
 use cxx_tree::{ArgTree, AssignTree, Expr, ForStep};
 use parse_expr::{braced_at, expression, expression_behind, unary_at};
-use sqlite_items::Boxed;
 use std::alloc::Global;
 
 #[tactic(auto, unfolding(cxx_grammar::specs::Lists::arg_expr))]

@@ -7,13 +7,13 @@ ghost use Rattle.parse_stmt.specs.Joined as joined;
 ghost use Rattle.parse_stmt.specs.Readers.{LoopReader, inner};
 
 use crate::reader::StmtReader;
+use containers::Boxed;
 use cxx_reading::{Fault, expect, expect_word, span};
 use cxx_tokens::Tokens;
 use cxx_tokens::keyword::{ELSE, IF, WHILE};
 use cxx_tokens::mark::{LEFT_PAREN, RIGHT_PAREN};
 use cxx_tree::{BodyTree, Stmt};
 use parse_expr::expression;
-use sqlite_items::Boxed;
 use std::alloc::Global;
 
 impl<

@@ -7,12 +7,12 @@ ghost use Rattle.cxx_tree.specs.declared.stmt.Stmt.TheVariants as stmt_of;
 ghost use Rattle.parse_stmt.specs.Readers.{LoopReader, deeper_braces, inner};
 
 use crate::reader::StmtReader;
+use containers::Items;
 use cxx_reading::{Fault, Seen, expect, kind_at, left, sees, single, span};
 use cxx_tokens::Tokens;
 use cxx_tokens::keyword::{BREAK, CONTINUE, FOR, IF, RETURN, STATIC_ASSERT, USING, WHILE};
 use cxx_tokens::mark::{LEFT_BRACE, RIGHT_BRACE, SEMICOLON};
 use cxx_tree::{BodyTree, Stmt};
-use sqlite_items::Items;
 use std::alloc::Global;
 
 impl<

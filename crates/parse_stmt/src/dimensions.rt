@@ -6,11 +6,11 @@ ghost use Rattle.cxx_grammar.specs.Statements as spec;
 ghost use Rattle.cxx_reading.specs.Reading.{Gives, optional};
 
 use crate::nested::deep_expression;
+use containers::Items;
 use cxx_reading::{Fault, expect, left, push, span};
 use cxx_tokens::Tokens;
 use cxx_tokens::mark::{LEFT_BRACKET, RIGHT_BRACKET};
 use cxx_tree::{BoundTree, Expr};
-use sqlite_items::Items;
 use std::alloc::Global;
 
 #[tactic(auto, unfolding(cxx_reading::specs::Reading::optional))]

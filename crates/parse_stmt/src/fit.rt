@@ -3,8 +3,8 @@
 ghost use Rattle.std.specs.Prelude.{◌≡◌, Some};
 ghost use Rattle.cxx_grammar.specs.Statements as spec;
 
+use containers::{Boxed, Items};
 use cxx_tree::{BoundTree, InitTree};
-use sqlite_items::{Boxed, Items};
 
 fn have_lengths(bounds: &[BoundTree]) -> bool
     ensures { result ≡ spec.have_lengths bounds.now }

@@ -32,6 +32,3 @@ pub use initializer::init;
 pub use local::init_if_any;
 pub use side_rule::allowed;
 pub use top::body;
-
-#[cfg(test)]
-mod tests;

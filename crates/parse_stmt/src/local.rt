@@ -9,13 +9,13 @@ use crate::dimensions::bounds;
 use crate::fit::fit_bounds;
 use crate::initializer::init;
 use crate::side_rule::allowed;
+use containers::Boxed;
 use cxx_reading::{Fault, eat_word, expect, identifier, span};
 use cxx_tokens::Tokens;
 use cxx_tokens::keyword::CONSTEXPR;
 use cxx_tokens::mark::SEMICOLON;
 use cxx_tree::{Identifier, InitTree, LocalTree, TypeTree};
 use parse_expr::type_at;
-use sqlite_items::Boxed;
 use std::alloc::Global;
 
 /// The initializer that begins at token number `at`, or none, as `init` reads it, and the number of the token after it.

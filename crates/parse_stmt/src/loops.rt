@@ -13,13 +13,13 @@ use crate::begins::begins_local;
 use crate::local::{Declared, local, local_rest};
 use crate::nested::TOO_DEEP;
 use crate::reader::StmtReader;
+use containers::Boxed;
 use cxx_reading::{Fault, expect, expect_word, identifier, longer, sees, sees_word, span};
 use cxx_tokens::Tokens;
 use cxx_tokens::keyword::{CONSTEXPR, FOR};
 use cxx_tokens::mark::{COLON, LEFT_PAREN, RIGHT_PAREN, SEMICOLON};
 use cxx_tree::{BodyTree, Expr, ForHead, ForInit, ForRange, ForStep, Identifier, Stmt, TypeTree};
 use parse_expr::{expression, type_at};
-use sqlite_items::Boxed;
 use std::alloc::Global;
 
 #[tactic(auto, unfolding(cxx_reading::specs::Reading::optional))]

@@ -4,12 +4,12 @@ ghost use Rattle.std.specs.Prelude.{◌≡◌, IfErr};
 ghost use Rattle.cxx_grammar.specs.Names as spec;
 ghost use Rattle.cxx_reading.specs.Reading.{Gives, Steps};
 
+use containers::Items;
 use cxx_grammar::{STD, VECTOR};
 use cxx_reading::{Fault, eat, expect, identifier, left, span};
 use cxx_tokens::Tokens;
 use cxx_tokens::mark::{LESS, SCOPE};
 use cxx_tree::{Identifier, NameTree};
-use sqlite_items::Items;
 use std::alloc::Global;
 
 #[tactic(auto, unfolding(cxx_grammar::specs::Names::named))]

@@ -8,12 +8,12 @@ ghost use Rattle.cxx_reading.specs.Readers.{Reader};
 use crate::fundamental::fund;
 use crate::names::{name, vector_head};
 use crate::reader::TypeReader;
+use containers::{Boxed, Items};
 use cxx_reading::{Fault, Seen, eat, eat_word, expect, expect_word, kind_at, left, span};
 use cxx_tokens::Tokens;
 use cxx_tokens::keyword::{CONST, TYPENAME};
 use cxx_tokens::mark::{AMPERSAND, GREATER, LEFT_SPLICE, RIGHT_SPLICE, STAR};
 use cxx_tree::{BasicTree, Expr, SpliceTree, TypeTree};
-use sqlite_items::{Boxed, Items};
 use std::alloc::Global;
 
 #[tactic(auto, unfolding(cxx_grammar::specs::Types::pointer))]

@@ -1,5 +1,6 @@
 pub mod Distinct
 pub mod Forms
+pub mod Lines
 pub mod Links
 pub mod Refusals
 pub mod Rows

@@ -5,13 +5,13 @@ ghost use Rattle.cxx_tree.specs.declared.decl.Item.TheVariants as item_of;
 ghost use Rattle.reflect_cli.specs.Accepted as spec;
 
 use crate::form_tree::{Arithmetic, Chain, Declaration, Link, Literal, Product, Sum};
+use containers::{Boxed, Items};
 use cxx_base::{IntKind, IntOp, Memory, Place};
 use cxx_reading::push;
 use cxx_tree::{
     BasicTree, BinaryOp, Decl, Evaluated, Expr, Fund, InitTree, IntegerLiteral, Item, Operation,
     Specifiers, TypeTree, VariableTree,
 };
-use sqlite_items::{Boxed, Items};
 use std::alloc::Global;
 
 fn int_literal(place: Place, decimal: bool, value: u64) -> Option<Literal>

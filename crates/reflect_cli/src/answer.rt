@@ -14,10 +14,18 @@ use cxx_base::{Bytes, Memory, Names, Refusal};
 use std::alloc::Global;
 
 /// A text, and whether it refuses something.
-#[derive(Drop)]
 pub struct Answer {
     pub text: Bytes,
     pub is_refused: bool,
+}
+
+impl Drop for Answer {
+    fn drop(self) {
+        let Answer {
+            text: _,
+            is_refused: _,
+        } = self;
+    }
 }
 
 impl Answer {

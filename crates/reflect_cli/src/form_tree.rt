@@ -1,7 +1,7 @@
 //! The trees of the accepted form.
 
+use containers::Items;
 use cxx_base::{IntOp, Name, Place};
-use sqlite_items::Items;
 
 /// An integer literal ([lex.icon]) of type `int`.
 #[derive(Clone, Copy, Debug)]
@@ -21,17 +21,32 @@ pub enum Arithmetic {
 }
 
 /// An operator and the operand on its right.
-#[derive(Debug, Drop)]
+#[derive(Debug)]
 pub struct Link<T> {
     pub operator: Arithmetic,
     pub operand: T,
 }
 
+impl<T: Drop> Drop for Link<T> {
+    fn drop(self) {
+        let Link {
+            operator: _,
+            operand: _,
+        } = self;
+    }
+}
+
 /// Operands joined by operators of one precedence, which group to the left.
-#[derive(Debug, Drop)]
+#[derive(Debug)]
 pub struct Chain<T> {
     pub first: T,
     pub rest: Items<Link<T>>,
+}
+
+impl<T: Drop> Drop for Chain<T> {
+    fn drop(self) {
+        let Chain { first: _, rest: _ } = self;
+    }
 }
 
 /// A multiplicative-expression ([expr.mul]).
@@ -41,8 +56,17 @@ pub type Product = Chain<Literal>;
 pub type Sum = Chain<Product>;
 
 /// A declaration `constexpr int NAME = SUM;` ([dcl.constexpr]).
-#[derive(Debug, Drop)]
+#[derive(Debug)]
 pub struct Declaration {
     pub name: Name,
     pub initializer: Sum,
+}
+
+impl Drop for Declaration {
+    fn drop(self) {
+        let Declaration {
+            name: _,
+            initializer: _,
+        } = self;
+    }
 }

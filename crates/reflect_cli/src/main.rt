@@ -54,6 +54,3 @@ fn main(rt: HostRuntime) -> ExitCode {
     let mut sink = ToWrite::new(rt.stdout());
     ExitCode::from(run_in_order(rt.alloc(), &words, &mut source, &mut sink))
 }
-
-#[cfg(test)]
-mod tests;

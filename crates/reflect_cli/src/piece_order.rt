@@ -6,9 +6,9 @@ ghost use Rattle.reflect_cli.specs.Order as spec;
 use crate::const_eval::{first_token, sum_value};
 use crate::core_tree::Outcome;
 use crate::form_tree::Declaration;
+use containers::Items;
 use cxx_base::{Code, Memory, Refusal};
 use int_kinds::ArithFault;
-use sqlite_items::Items;
 use std::alloc::Global;
 
 fn detail_of(fault: ArithFault) -> u64

@@ -8,18 +8,26 @@ ghost use Rattle.reflect_cli.specs.Program as spec;
 use crate::accepted::declarations;
 use crate::form::is_in_form;
 use crate::form_tree::Declaration;
+use containers::Items;
 use cxx_base::{Code, Memory, Names, Place, Refusal};
 use cxx_tokens::{LexFault, Tokens, tokens};
 use cxx_tree::Item;
 use parse_decl::{SyntaxFault, unit};
-use sqlite_items::Items;
 use std::alloc::Global;
 
 /// The names of a source, and its declarations.
-#[derive(Drop)]
 pub struct Program {
     pub names: Names,
     pub declarations: Items<Declaration>,
+}
+
+impl Drop for Program {
+    fn drop(self) {
+        let Program {
+            names: _,
+            declarations: _,
+        } = self;
+    }
 }
 
 /// Why a source has no program.

@@ -51,8 +51,8 @@ fn answer_from<S: Source>(alloc: Global, source: &mut S) -> Result<Answer, Unans
 /// - 0 or 1: the report was written whole; 1 where it refuses something.
 /// - 2: the words are not accepted.
 /// - 3: a read failed. Nothing was written.
-/// - 4: a write failed. A front of the report was written.
-/// - 5: memory ran out. A front of the report was written.
+/// - 4: a write failed. A prefix of the report was written.
+/// - 5: memory ran out. A prefix of the report was written.
 pub fn run_in_order<S: Source, K: Sink>(
     alloc: Global,
     words: &Words,
@@ -75,13 +75,13 @@ pub fn run_in_order<S: Source, K: Sink>(
     ensures source_fault { result ≡ 3 → Rose (S.faults source.old) (S.faults source.new) }
     ensures unwritten { result ≡ 3 → sink.new ≡ sink.old }
 
-    // 4: a write failed, after the source was read as far as at 0 or 1. 5: memory ran out. A front of the text is written.
+    // 4: a write failed, after the source was read as far as at 0 or 1. 5: memory ran out. A prefix of the text is written.
     ensures sink_fault { result ≡ 4 → Rose (K.faults sink.old) (K.faults sink.new) }
     ensures read_before { result ≡ 4 → Drops (S.left source.old) (S.left source.new) (MAX_SOURCE + 1) }
     ensures prefix { 4 ≤ result → IfSome (S.left source.old) (λ xs. IsSomeAnd (told words.now xs) (λ answer.
         AppendsPrefix (K.held sink.old) (K.held sink.new) answer.text)) }
 
-    // Whatever the status but 2, what the source has lost is a front of its bytes.
+    // Whatever the status but 2, what the source has lost is a prefix of its bytes.
     ensures taken { result ≢ 2 → LosesPrefix (S.left source.old) (S.left source.new) }
 
     // There is no other answer, so where the words are in the grammar and neither device failed, the text that is told was

@@ -8,9 +8,14 @@ use std::alloc::Global;
 use std::marker::Model;
 
 /// A list of words. Contracts see the list of their texts.
-#[derive(Drop)]
 pub struct Words {
     words: Vec<String>,
+}
+
+impl Drop for Words {
+    fn drop(self) {
+        let Words { words: _ } = self;
+    }
 }
 
 impl Model for Words {

@@ -8,7 +8,7 @@ use crate::expr::{Expr, NewInit};
 use crate::same::leaf::bytes_same;
 use crate::same::operation::operations_same;
 use crate::same::suffix::suffixes_same;
-use sqlite_items::Boxed;
+use containers::Boxed;
 
 impl Expr {
     /// Whether two expressions are the same, spans aside.

@@ -1,0 +1,155 @@
+//! What is answered to a question.
+
+use crate::asked::{Asked, LAST, Question};
+use crate::grown::text_of;
+use crate::parts::Part;
+use crate::plain::plain_same;
+use crate::reading::{Reading, tree_text};
+use crate::same::{Pair, is_same};
+use crate::span_of::span_text;
+use cxx_base::{Memory, Names};
+use cxx_reading::Fault;
+use cxx_tokens::{LexFault, Tokens, tokens};
+use std::alloc::Global;
+
+/// The most bytes of a text that has tokens.
+const MOST: usize = 4_194_304;
+
+/// As many names are too many for a further text.
+const MOST_NAMES: u32 = 8_388_608;
+
+// The tokens of a text, or none where it has none.
+fn tokens_of(alloc: Global, names: &mut Names, text: &str) -> Result<Option<Tokens>, Memory> {
+    if text.len() > MOST || names.len() >= MOST_NAMES {
+        return Ok(None);
+    }
+    match tokens(alloc, names, text.as_bytes()) {
+        Ok(tokens) => Ok(Some(tokens)),
+        Err(LexFault::Memory) => Err(Memory),
+        Err(_) => Ok(None),
+    }
+}
+
+// The answer, or why nothing is read.
+fn or_fault(alloc: Global, read: Result<String, Fault>) -> Result<String, Memory> {
+    match read {
+        Ok(text) => Ok(text),
+        Err(Fault::Syntax) => Ok(String::from_str(alloc, "S1")?),
+        Err(Fault::Deep) => Ok(String::from_str(alloc, "S2")?),
+        Err(Fault::Memory) => Err(Memory),
+    }
+}
+
+// What is read of one text.
+fn answer_to_text(
+    alloc: Global,
+    names: &mut Names,
+    asked: Asked,
+    text: &str,
+) -> Result<String, Memory> {
+    if asked.level > LAST {
+        return Ok(String::from_str(alloc, "no question")?);
+    }
+    let Some(tokens) = tokens_of(alloc, names, text)? else {
+        return Ok(String::from_str(alloc, "no tokens")?);
+    };
+    let reading = Reading {
+        alloc,
+        names,
+        tokens: &tokens,
+        text,
+        asked,
+    };
+    let read = match asked.question {
+        Question::Tree(rule) => tree_text(rule, reading),
+        Question::Spans(rule) => tree_text(rule, reading),
+        Question::Span(part) => span_text(part, reading),
+        Question::Same(_) => Err(Fault::Syntax),
+        Question::Plain => Err(Fault::Syntax),
+    };
+    or_fault(alloc, read)
+}
+
+// Whether a part of two texts is the same, which are read of one text with a `;` between them.
+fn pair_same(
+    alloc: Global,
+    names: &mut Names,
+    asked: Asked,
+    part: Part,
+    one: &str,
+    other: &str,
+) -> Result<bool, Memory> {
+    if asked.level > LAST {
+        return Ok(false);
+    }
+    let mut both = text_of(alloc, one, asked.repeated)?;
+    both.push_str(" ; ")?;
+    let other = text_of(alloc, other, asked.repeated)?;
+    both.push_str(other.as_str())?;
+    let Some(tokens) = tokens_of(alloc, names, both.as_str())? else {
+        return Ok(false);
+    };
+    let pair = Pair {
+        alloc,
+        tokens: &tokens,
+        level: asked.level,
+    };
+    match is_same(part, pair) {
+        Ok(same) => Ok(same),
+        Err(Fault::Memory) => Err(Memory),
+        Err(_) => Ok(false),
+    }
+}
+
+fn are_same(
+    alloc: Global,
+    names: &mut Names,
+    asked: Asked,
+    one: &str,
+    other: &str,
+) -> Result<bool, Memory> {
+    match asked.question {
+        Question::Same(part) => pair_same(alloc, names, asked, part, one, other),
+        _ => plain_same(alloc, one, other),
+    }
+}
+
+// The numbers of the lines that are the same as one.
+fn same_lines(
+    alloc: Global,
+    names: &mut Names,
+    asked: Asked,
+    rows: &[&str],
+    row: &str,
+) -> Result<String, Memory> {
+    let mut out = String::new(alloc);
+    for n in 0..rows.len() {
+        let other = rows.get(n).copied().unwrap_or("");
+        if are_same(alloc, names, asked, row, other)? {
+            if !out.is_empty() {
+                out.push_str(" ")?;
+            }
+            out.push_str(format!(in alloc; "{}", n as u64 + 1)?.as_str())?;
+        }
+    }
+    Ok(out)
+}
+
+/// What is answered to a question of the line with this number among those below its heading.
+pub fn answer(
+    alloc: Global,
+    names: &mut Names,
+    asked: Asked,
+    rows: &[&str],
+    n: usize,
+) -> Result<String, Memory> {
+    let row = rows.get(n).copied().unwrap_or("");
+    match asked.question {
+        Question::Same(_) => same_lines(alloc, names, asked, rows, row),
+        Question::Plain => same_lines(alloc, names, asked, rows, row),
+        _ => {
+            let text = text_of(alloc, row, asked.repeated)?;
+            answer_to_text(alloc, names, asked, text.as_str())
+        }
+    }
+}

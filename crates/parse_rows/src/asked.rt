@@ -1,0 +1,150 @@
+//! What a heading asks of the lines below it.
+
+use crate::parts::{Part, part_named};
+use std::alloc::{AllocError, Global};
+
+/// The rules that are read by public calls. `Behind` is an expression of which the unary expression is read before.
+#[derive(Clone, Copy)]
+pub enum Rule {
+    Expr,
+    Type,
+    Braced,
+    Unary,
+    Name,
+    Splice,
+    Args,
+    Behind,
+    Body,
+    Unit,
+}
+
+#[derive(Clone, Copy)]
+pub enum Question {
+    Tree(Rule),
+    Spans(Rule),
+    Same(Part),
+    Span(Part),
+    Plain,
+}
+
+/// How a line is made a text: as it is, or with its parts repeated, of which those behind the middle may be left out.
+#[derive(Clone, Copy)]
+pub enum Repeated {
+    Once,
+    Times(u32),
+    Open(u32),
+}
+
+/// The last level that is asked of: one beyond the last of the grammar, where each rule is too deep.
+pub const LAST: u32 = 257;
+
+/// What is asked, and of which text at which level, not above 257, and from which token.
+#[derive(Clone, Copy)]
+pub struct Asked {
+    pub question: Question,
+    pub level: u32,
+    pub at: u32,
+    pub repeated: Repeated,
+}
+
+fn rule_named(name: &str) -> Option<Rule> {
+    match name {
+        "expression" => Some(Rule::Expr),
+        "type" => Some(Rule::Type),
+        "braced" => Some(Rule::Braced),
+        "unary" => Some(Rule::Unary),
+        "name" => Some(Rule::Name),
+        "splice" => Some(Rule::Splice),
+        "arguments" => Some(Rule::Args),
+        "behind" => Some(Rule::Behind),
+        "body" => Some(Rule::Body),
+        "unit" => Some(Rule::Unit),
+        _ => None,
+    }
+}
+
+fn question_of(first: &str, second: &str) -> Option<Question> {
+    match first {
+        "spans" => Some(Question::Spans(rule_named(second)?)),
+        "same" => Some(Question::Same(part_named(second)?)),
+        "span" => Some(Question::Span(part_named(second)?)),
+        _ => None,
+    }
+}
+
+// A question of one word.
+fn short_question(word: &str) -> Option<Question> {
+    if word == "plain" {
+        return Some(Question::Plain);
+    }
+    Some(Question::Tree(rule_named(word)?))
+}
+
+// What is asked where a number stands behind this word too.
+fn with_number(asked: Asked, word: &str, number: &str) -> Option<Asked> {
+    let number = number.parse::<u32>().ok()?;
+    let mut asked = asked;
+    match word {
+        "at" => asked.level = number,
+        "from" => asked.at = number,
+        "times" => asked.repeated = Repeated::Times(number),
+        "open" => asked.repeated = Repeated::Open(number),
+        _ => return None,
+    }
+    if asked.level <= LAST {
+        Some(asked)
+    } else {
+        None
+    }
+}
+
+// The word that begins a text, and what stands behind the blank after it.
+fn first_word(text: &str) -> (&str, &str) {
+    text.split_once(' ').unwrap_or((text, ""))
+}
+
+// What a question and the numbers behind it ask.
+fn with_numbers(question: Question, numbers: &str) -> Option<Asked> {
+    let mut asked = Asked {
+        question,
+        level: 0,
+        at: 0,
+        repeated: Repeated::Once,
+    };
+    let mut rest = numbers;
+    for _ in 0..numbers.len() {
+        if rest.is_empty() {
+            break;
+        }
+        let (word, behind) = first_word(rest);
+        let (number, more) = first_word(behind);
+        asked = with_number(asked, word, number)?;
+        rest = more;
+    }
+    Some(asked)
+}
+
+fn asked_by(text: &str) -> Option<Asked> {
+    let (first, behind) = first_word(text);
+    let (second, more) = first_word(behind);
+    match question_of(first, second) {
+        Some(question) => with_numbers(question, more),
+        None => with_numbers(short_question(first)?, behind),
+    }
+}
+
+/// The questions of a heading, or none where one of them is no question.
+pub fn questions(alloc: Global, heading: &str) -> Result<Vec<Asked>, AllocError> {
+    let questions = match heading.split_once(", ") {
+        Some((questions, _)) => questions,
+        None => heading,
+    };
+    let mut all = Vec::new(alloc);
+    for text in questions.split("; ") {
+        match asked_by(text) {
+            Some(asked) => all.push(asked)?,
+            None => return Ok(Vec::new(alloc)),
+        }
+    }
+    Ok(all)
+}
