@@ -1,0 +1,2 @@
+constexpr int a = 1 +
+ 65536 * 65536;

@@ -1,0 +1,1 @@
+constexpr int a = 1; constexpr int b = 1; constexpr int a = 2;

@@ -1,0 +1,1 @@
+namespace a { constexpr int b = 1; }

@@ -1,0 +1,1 @@
+constexpr int a = int(1);

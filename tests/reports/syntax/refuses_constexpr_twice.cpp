@@ -1,0 +1,1 @@
+constexpr constexpr int a = 1;

@@ -1,0 +1,1 @@
+constexpr int a = 1 + 2 * 3 + (4);

@@ -1,0 +1,1 @@
+int f() { i = j = k; } x y z

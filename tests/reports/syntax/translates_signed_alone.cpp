@@ -1,0 +1,1 @@
+constexpr signed a = 1;

@@ -1,0 +1,4 @@
+﻿# 1 "a.cpp"
+constexpr	int/**/ö
+= 1'0 // ten
+;

@@ -1,0 +1,1 @@
+constexpr int a=2*3+4;constexpr int b=2-3-4;

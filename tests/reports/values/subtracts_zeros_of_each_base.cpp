@@ -1,0 +1,1 @@
+constexpr int a = 00 - 0x0 - 0b0;
