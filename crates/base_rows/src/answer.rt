@@ -1,7 +1,7 @@
 //! The answer to a row.
 
-use crate::row_fault::RowFault;
 use crate::{base, devices, layouts, lists, reading, refusals};
+use row_edge::RowFault;
 use std::alloc::Global;
 
 /// Puts the answer to a line at the end of a text.

@@ -2,10 +2,8 @@
 
 use crate::bytes::{append_bytes, append_outcome};
 use crate::names::{append_found, append_numbers};
-use crate::row_fault::RowFault;
-use crate::show::show;
-use crate::words::{all_parsed, next_word, parsed, text_of};
 use cxx_base::{Bytes, Limits, Memory, Ticks};
+use row_edge::{RowFault, all_parsed, next_word, parsed, show, text_of};
 use std::alloc::{AllocError, Global};
 
 /// Puts the answer at the end of a text.

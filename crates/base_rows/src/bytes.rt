@@ -1,9 +1,7 @@
 //! Rows of lists of bytes and of outcomes.
 
-use crate::row_fault::RowFault;
-use crate::show::show;
-use crate::words::{parsed, text_of};
 use cxx_base::{Bytes, OutcomeList, PieceNo};
+use row_edge::{RowFault, parsed, show, text_of};
 use std::alloc::Global;
 use std::str::SplitWhitespace;
 

@@ -1,11 +1,9 @@
 //! Rows of the devices in memory, whose calls fail where a row says so, and of those over readers and writers.
 
-use crate::row_fault::RowFault;
-use crate::show::{show, show_text};
 use crate::streams::{Awkward, Broken, append_from, append_to};
-use crate::words::{next_setting, next_word, parsed, text_of};
 use cxx_base::Bytes;
 use io_edge::{CallList, MemSink, MemSource, ReadAll, Source, read_all, write_all};
+use row_edge::{RowFault, next_setting, next_word, parsed, show, show_text, text_of};
 use std::alloc::Global;
 use std::str::SplitWhitespace;
 

@@ -3,12 +3,10 @@
 ghost use Rattle.std.specs.Prelude.{All, IfOk};
 ghost use Rattle.class_layout.specs.Arrangement.{IsPart};
 
-use crate::row_fault::RowFault;
-use crate::show::show;
-use crate::words::{next_word, pair_of, parsed};
 use class_layout::{
     Part, is_the_least, layout, no_two_overlap, parts_are_in_order, whole_is_aligned,
 };
+use row_edge::{RowFault, next_word, pair_of, parsed, show};
 use std::alloc::Global;
 use std::str::SplitWhitespace;
 

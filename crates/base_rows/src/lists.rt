@@ -1,9 +1,7 @@
 //! Rows of boxes and lists.
 
-use crate::row_fault::RowFault;
-use crate::show::show;
-use crate::words::{all_parsed, next_word, parsed};
 use containers::{Boxed, Items};
+use row_edge::{RowFault, all_parsed, next_word, parsed, show};
 use std::alloc::Global;
 use std::str::SplitWhitespace;
 

@@ -14,80 +14,32 @@ mod lists;
 mod names;
 mod reading;
 mod refusals;
-mod row_fault;
-mod show;
 mod steps;
 mod streams;
-mod words;
 
 use answer::append_answer;
-use io_edge::{FromRead, ReadAll, Sink, Source, ToWrite, read_all, write_all};
-use row_fault::RowFault;
-use std::alloc::{AllocError, Global};
+use io_edge::{FromRead, ToWrite};
+use row_edge::{RowAnswers, RowFault, TextAnswers, answers_to_rows, run};
+use std::alloc::Global;
 use std::process::ExitCode;
 
-/// The greatest length of the input.
-const MAX_INPUT: usize = 1_048_576;
+/// The rows of these crates.
+struct BaseRows;
 
-/// The status where the input is no text, or too long.
-const REFUSED: u8 = 2;
-
-/// The status where a read failed.
-const NOT_READ: u8 = 3;
-
-/// The status where a write failed.
-const NOT_WRITTEN: u8 = 4;
-
-/// The status where memory ran out.
-const NO_MEMORY: u8 = 5;
-
-// The line, and behind it the answer, unless the line is a remark.
-fn append_row(alloc: Global, out: &mut String, line: &str) -> Result<(), AllocError> {
-    out.push_str(line)?;
-    if !line.starts_with('#') && !line.is_empty() {
-        out.push_str(" => ")?;
-        match append_answer(alloc, out, line) {
-            Ok(()) => {}
-            Err(RowFault::Unread) => out.push_str("not understood")?,
-            Err(RowFault::Memory) => return Err(AllocError),
-        }
-    }
-    out.push('\n')
-}
-
-fn rows(alloc: Global, text: &str) -> Result<String, AllocError> {
-    let mut out = String::new(alloc);
-    for line in text.lines() {
-        append_row(alloc, &mut out, line)?;
-    }
-    Ok(out)
-}
-
-// All rows of a text, written. The status.
-fn answer_text<K: Sink>(alloc: Global, bytes: &[u8], sink: &mut K) -> u8 {
-    let Ok(text) = str::from_utf8(bytes) else {
-        return REFUSED;
-    };
-    match rows(alloc, text) {
-        Ok(answers) => match write_all(sink, answers.as_bytes()) {
-            Ok(()) => 0,
-            Err(_) => NOT_WRITTEN,
-        },
-        Err(_) => NO_MEMORY,
+impl RowAnswers for BaseRows {
+    fn append_answer(alloc: Global, out: &mut String, line: &str) -> Result<(), RowFault> {
+        append_answer(alloc, out, line)
     }
 }
 
-fn run<S: Source, K: Sink>(alloc: Global, source: &mut S, sink: &mut K) -> u8 {
-    match read_all(alloc, source, MAX_INPUT) {
-        Ok(bytes) => answer_text(alloc, bytes.as_slice(), sink),
-        Err(ReadAll::TooLong) => REFUSED,
-        Err(ReadAll::Fault) => NOT_READ,
-        Err(ReadAll::Memory) => NO_MEMORY,
+impl TextAnswers for BaseRows {
+    fn answers(alloc: Global, text: &str) -> Result<String, RowFault> {
+        answers_to_rows::<BaseRows>(alloc, text)
     }
 }
 
 fn main(rt: HostRuntime) -> ExitCode {
     let mut source = FromRead::new(rt.stdin());
     let mut sink = ToWrite::new(rt.stdout());
-    ExitCode::from(run(rt.alloc(), &mut source, &mut sink))
+    ExitCode::from(run::<BaseRows, _, _>(rt.alloc(), &mut source, &mut sink))
 }

@@ -1,9 +1,7 @@
 //! Rows of names.
 
-use crate::row_fault::RowFault;
-use crate::show::show;
-use crate::words::text_of;
 use cxx_base::{Name, Names};
+use row_edge::{RowFault, show, text_of};
 use std::alloc::Global;
 use std::str::SplitWhitespace;
 

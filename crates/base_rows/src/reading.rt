@@ -1,9 +1,6 @@
 //! Rows of what the grammar is written with: choices, lists, faults, laws, and steps over the tokens of a source.
 
-use crate::row_fault::RowFault;
-use crate::show::show;
 use crate::steps::append_steps;
-use crate::words::{next_word, pair_of, parsed};
 use containers::Items;
 use cxx_base::{Memory, Names};
 use cxx_reading::{
@@ -11,6 +8,7 @@ use cxx_reading::{
     repetitions_end_by_themselves, single,
 };
 use cxx_tokens::{LexFault, Tokens, tokens};
+use row_edge::{RowFault, next_word, pair_of, parsed, show};
 use std::alloc::{AllocError, Global};
 use std::fmt::Debug;
 use std::str::{FromStr, SplitWhitespace};

@@ -1,8 +1,5 @@
 //! Rows of the names and texts of refusals.
 
-use crate::row_fault::RowFault;
-use crate::show::show;
-use crate::words::{next_word, parsed};
 use cxx_base::Code::{
     L1, L2, L3, L4, L5, L6, M1, M2, M3, M4, M5, M6, M7, N1, N2, N3, N4, N5, P1, R1, S1, S2, T1, T2,
     T3, T4, T5, T6, T7, T8, T9, T10, V1, V2, V3, V4, V5, V6, V7, V8, V9, V10, V11, V12, V13, V14,
@@ -10,6 +7,7 @@ use cxx_base::Code::{
 };
 use cxx_base::{Code, Place, Refusal};
 use diagnostics::{name, text};
+use row_edge::{RowFault, next_word, parsed, show};
 
 /// The codes of each letter in order, so that a row names a code without the names that it asks for.
 const L: [Code; 6] = [L1, L2, L3, L4, L5, L6];

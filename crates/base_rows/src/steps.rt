@@ -1,8 +1,5 @@
 //! Rows of the steps over single tokens, each with the tokens at which it is taken.
 
-use crate::row_fault::RowFault;
-use crate::show::show;
-use crate::words::{next_word, parsed};
 use cxx_reading::{
     Fault, any_punctuator, any_word, character, eat, eat_word, expect, expect_word, identifier,
     integer, kind_ahead, kind_at, left, sees, sees_identifier, sees_word, span, text,
@@ -10,6 +7,7 @@ use cxx_reading::{
 use cxx_tokens::Tokens;
 use cxx_tokens::keyword::{CONSTEXPR, INT};
 use cxx_tokens::mark::{PLUS, SEMICOLON};
+use row_edge::{RowFault, next_word, parsed, show};
 use std::alloc::Global;
 use std::str::SplitWhitespace;
 

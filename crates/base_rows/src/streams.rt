@@ -1,9 +1,8 @@
 //! The devices over readers and writers of std.
 
 use crate::devices::append_read_all;
-use crate::row_fault::RowFault;
-use crate::show::show;
 use io_edge::{FromRead, ToWrite, write_all};
+use row_edge::{RowFault, show};
 use std::alloc::Global;
 use std::io;
 use std::io::{Error, ErrorKind, Read, Write};

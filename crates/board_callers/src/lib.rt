@@ -16,8 +16,6 @@ pub use many_work::{settle_by_four, settle_by_two, settle_some};
 pub use rounds::{ThreadCount, settle_round};
 pub use scanning::{Found, scan};
 pub use three::Three;
+pub use three_board::{OpenedThree, close_three, open_three};
 pub use three_task::ThreeTask;
 pub use three_work::settle_three;
-
-#[cfg(test)]
-mod tests;

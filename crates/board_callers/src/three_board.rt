@@ -13,15 +13,16 @@ use cxx_base::{Memory, OutcomeList};
 use settle_board::{Board, BoardSeat, Seats, Unsettled};
 use std::alloc::Global;
 
-/// The board, the list of its seats, and the two seats, which are out.
-pub(crate) type Opened = (
+/// A board of the three pieces, the list of its seats, and the two seats, which are out.
+pub type OpenedThree = (
     Board<Three>,
     Seats<Three>,
     BoardSeat<Three>,
     BoardSeat<Three>,
 );
 
-pub(crate) fn open(alloc: Global) -> Result<Opened, Memory>
+/// A new board of the three pieces with two seats.
+pub fn open_three(alloc: Global) -> Result<OpenedThree, Memory>
     ensures seats { IfOk result (λ r. (seats_in r.1 ≡ []) × (room_of r.1 ≡ 2) × (seat_count r.0 ≡ 2)) }
     ensures first { IfOk result (λ r. IsOf (λ _. three_pieces) r.0 r.2 × IsIdle (view_of r.2)) }
     ensures second { IfOk result (λ r. IsOf (λ _. three_pieces) r.0 r.3 × IsIdle (view_of r.3)) }
@@ -37,7 +38,7 @@ pub(crate) fn open(alloc: Global) -> Result<Opened, Memory>
 }
 
 /// Both seats come back, and the board is closed. A piece that is left was seen settled by neither.
-pub(crate) fn close(
+pub fn close_three(
     board: Board<Three>,
     mut seats: Seats<Three>,
     first: BoardSeat<Three>,

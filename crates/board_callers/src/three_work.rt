@@ -7,7 +7,7 @@ ghost use Rattle.board_callers.specs.ThreePieces.{three_pieces};
 ghost use Rattle.board_callers.specs.Idle.{IsIdle, HoldsUntaken, HasSeenAll};
 
 use crate::three::Three;
-use crate::three_board::{close, open};
+use crate::three_board::{close_three, open_three};
 use crate::three_task::ThreeTask;
 use cxx_base::{Memory, OutcomeList, PieceNo};
 use settle_board::{Board, BoardSeat, Claim, Lend};
@@ -28,9 +28,9 @@ pub fn settle_three<R: Threads + Wait + Sync>(
     requires other { (i : ℕ) → i < length other.now → slice_index other.now i < 3 }
     ensures { IfOk result (λ outcomes. outcomes ≡ fold three_pieces 3) }
 {
-    let (board, seats, first, second) = open(alloc)?;
+    let (board, seats, first, second) = open_three(alloc)?;
     let (first, second) = settle_both(rt, &board, first, second, order, other);
-    match close(board, seats, first, second) {
+    match close_three(board, seats, first, second) {
         Ok(outcomes) => Ok(outcomes),
         Err(_) => unreachable!(),
     }

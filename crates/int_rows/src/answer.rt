@@ -2,6 +2,7 @@
 
 use crate::words::name_of;
 use int_kinds::{ArithFault, IntKind};
+use row_edge::RowFault;
 use std::alloc::AllocError;
 
 /// What the call of a row gives.
@@ -34,16 +35,20 @@ fn fault_words(fault: ArithFault) -> &'static str {
     }
 }
 
-/// Puts an answer at the end of a text. There is none to a line that names no call, or one that may not be made.
-pub fn append_answer(out: &mut String, answer: Option<Answer>) -> Result<(), AllocError> {
+fn push_answer(out: &mut String, answer: Answer) -> Result<(), AllocError> {
     match answer {
-        Some(Answer::Number(n)) => write!(out, "{n}"),
-        Some(Answer::Fault(fault)) => out.push_str(fault_words(fault)),
-        Some(Answer::Truth(true)) => out.push_str("true"),
-        Some(Answer::Truth(false)) => out.push_str("false"),
-        Some(Answer::Kind(kind)) => out.push_str(name_of(kind)),
-        Some(Answer::NoKind) => out.push_str("no kind"),
-        Some(Answer::LawsHold) => out.push_str("hold"),
-        None => out.push_str("not understood"),
+        Answer::Number(n) => write!(out, "{n}"),
+        Answer::Fault(fault) => out.push_str(fault_words(fault)),
+        Answer::Truth(true) => out.push_str("true"),
+        Answer::Truth(false) => out.push_str("false"),
+        Answer::Kind(kind) => out.push_str(name_of(kind)),
+        Answer::NoKind => out.push_str("no kind"),
+        Answer::LawsHold => out.push_str("hold"),
     }
+}
+
+/// Puts an answer at the end of a text.
+pub fn append_answer(out: &mut String, answer: Answer) -> Result<(), RowFault> {
+    push_answer(out, answer)?;
+    Ok(())
 }

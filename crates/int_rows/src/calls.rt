@@ -10,114 +10,115 @@ use int_kinds::{
     negate_overflows_at_least, no_kind_beyond, promote, refuses_only_beyond_range,
     wrap_is_the_member,
 };
+use row_edge::{RowFault, next_word};
 use std::str::SplitWhitespace;
 
-/// What the call of a line gives, or none where the line names no call, has a word too many, or has arguments that the call
-/// does not take.
-pub fn answer_to(line: &str) -> Option<Answer> {
+/// What the call of a line gives. A line is not understood where it names no call, has a word too many, or has arguments that the
+/// call does not take.
+pub fn answer_to(line: &str) -> Result<Answer, RowFault> {
     let mut words = line.split_whitespace();
-    let call = words.next()?;
+    let call = next_word(&mut words)?;
     let answer = called(call, &mut words)?;
     if words.next().is_some() {
-        return None;
+        return Err(RowFault::Unread);
     }
-    Some(answer)
+    Ok(answer)
 }
 
-fn called(call: &str, words: &mut SplitWhitespace<'_>) -> Option<Answer> {
+fn called(call: &str, words: &mut SplitWhitespace<'_>) -> Result<Answer, RowFault> {
     match call {
-        "least" => Some(Answer::Number(least(next_kind(words)?))),
-        "greatest" => Some(Answer::Number(greatest(next_kind(words)?))),
+        "least" => Ok(Answer::Number(least(next_kind(words)?))),
+        "greatest" => Ok(Answer::Number(greatest(next_kind(words)?))),
         "is_in_range" => range(words),
         "apply" => operator(words),
         "negate" => negative(words),
         "complement" => turned(words),
         "convert" => conversion(words),
-        "promote" => Some(Answer::Kind(promote(next_kind(words)?))),
+        "promote" => Ok(Answer::Kind(promote(next_kind(words)?))),
         "common" => common_kind(words),
         "compare" => comparison(words),
         "literal_kind" => literal(words),
-        "laws" => Some(laws()),
-        _ => None,
+        "laws" => Ok(laws()),
+        _ => Err(RowFault::Unread),
     }
 }
 
-fn range(words: &mut SplitWhitespace<'_>) -> Option<Answer> {
+fn range(words: &mut SplitWhitespace<'_>) -> Result<Answer, RowFault> {
     let kind = next_kind(words)?;
     let n = next_number(words)?;
-    Some(Answer::Truth(is_in_range(kind, n)))
+    Ok(Answer::Truth(is_in_range(kind, n)))
 }
 
 // `apply`, whose operator stands between the kind and the sides. The kind is promoted first.
-fn operator(words: &mut SplitWhitespace<'_>) -> Option<Answer> {
+fn operator(words: &mut SplitWhitespace<'_>) -> Result<Answer, RowFault> {
     let kind = promote(next_kind(words)?);
     let op = next_operator(words)?;
     let a = next_number(words)?;
     let b = next_number(words)?;
     if !is_in_range(kind, a) {
-        return None;
+        return Err(RowFault::Unread);
     }
     match op {
-        IntOp::Shl => Some(exact(apply(IntOp::Shl, kind, a, b))),
-        IntOp::Shr => Some(exact(apply(IntOp::Shr, kind, a, b))),
+        IntOp::Shl => Ok(exact(apply(IntOp::Shl, kind, a, b))),
+        IntOp::Shr => Ok(exact(apply(IntOp::Shr, kind, a, b))),
         _ => {
             if is_in_range(kind, b) {
-                Some(exact(apply(op, kind, a, b)))
+                Ok(exact(apply(op, kind, a, b)))
             } else {
-                None
+                Err(RowFault::Unread)
             }
         }
     }
 }
 
-fn negative(words: &mut SplitWhitespace<'_>) -> Option<Answer> {
+fn negative(words: &mut SplitWhitespace<'_>) -> Result<Answer, RowFault> {
     let kind = promote(next_kind(words)?);
     let a = next_number(words)?;
     if is_in_range(kind, a) {
-        Some(exact(negate(kind, a)))
+        Ok(exact(negate(kind, a)))
     } else {
-        None
+        Err(RowFault::Unread)
     }
 }
 
-fn turned(words: &mut SplitWhitespace<'_>) -> Option<Answer> {
+fn turned(words: &mut SplitWhitespace<'_>) -> Result<Answer, RowFault> {
     let kind = promote(next_kind(words)?);
     let a = next_number(words)?;
     if is_in_range(kind, a) {
-        Some(Answer::Number(complement(kind, a)))
+        Ok(Answer::Number(complement(kind, a)))
     } else {
-        None
+        Err(RowFault::Unread)
     }
 }
 
-fn conversion(words: &mut SplitWhitespace<'_>) -> Option<Answer> {
+fn conversion(words: &mut SplitWhitespace<'_>) -> Result<Answer, RowFault> {
     let kind = next_kind(words)?;
     let n = next_number(words)?;
-    Some(Answer::Number(convert(kind, n)))
+    Ok(Answer::Number(convert(kind, n)))
 }
 
-fn common_kind(words: &mut SplitWhitespace<'_>) -> Option<Answer> {
+fn common_kind(words: &mut SplitWhitespace<'_>) -> Result<Answer, RowFault> {
     let a = next_kind(words)?;
     let b = next_kind(words)?;
-    Some(Answer::Kind(common(a, b)))
+    Ok(Answer::Kind(common(a, b)))
 }
 
 // `compare`, whose operator stands between the numbers.
-fn comparison(words: &mut SplitWhitespace<'_>) -> Option<Answer> {
+fn comparison(words: &mut SplitWhitespace<'_>) -> Result<Answer, RowFault> {
     let a = next_number(words)?;
     let op = next_comparison(words)?;
     let b = next_number(words)?;
-    Some(Answer::Truth(compare(op, a, b)))
+    Ok(Answer::Truth(compare(op, a, b)))
 }
 
 // `literal_kind`: the base, the suffix and the value.
-fn literal(words: &mut SplitWhitespace<'_>) -> Option<Answer> {
+fn literal(words: &mut SplitWhitespace<'_>) -> Result<Answer, RowFault> {
     let decimal = next_base(words)?;
     let suffix = next_suffix(words)?;
     let n = next_value(words)?;
     match literal_kind(decimal, suffix.unsigned, suffix.longs, n) {
-        Some(kind) => Some(Answer::Kind(kind)),
-        None => Some(Answer::NoKind),
+        Some(kind) => Ok(Answer::Kind(kind)),
+        None => Ok(Answer::NoKind),
     }
 }
 

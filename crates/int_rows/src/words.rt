@@ -1,8 +1,9 @@
 //! The words of a row: kinds, operators, numbers and suffixes.
 
-ghost use Rattle.std.specs.Prelude.{◌≤◌, IfSome};
+ghost use Rattle.std.specs.Prelude.{◌≤◌, IfOk};
 
 use int_kinds::{CompareOp, IntKind, IntOp};
+use row_edge::{RowFault, next_word, parsed};
 use std::str::SplitWhitespace;
 
 // Each kind once.
@@ -22,14 +23,14 @@ const KINDS: [IntKind; 12] = [
 ];
 
 /// The kind that the next word names.
-pub fn next_kind(words: &mut SplitWhitespace<'_>) -> Option<IntKind> {
-    let word = words.next()?;
+pub fn next_kind(words: &mut SplitWhitespace<'_>) -> Result<IntKind, RowFault> {
+    let word = next_word(words)?;
     for kind in KINDS {
         if name_of(kind) == word {
-            return Some(kind);
+            return Ok(kind);
         }
     }
-    None
+    Err(RowFault::Unread)
 }
 
 /// The word of a kind.
@@ -51,51 +52,51 @@ pub fn name_of(kind: IntKind) -> &'static str {
 }
 
 /// The binary operator that the next word is.
-pub fn next_operator(words: &mut SplitWhitespace<'_>) -> Option<IntOp> {
-    match words.next()? {
-        "+" => Some(IntOp::Add),
-        "-" => Some(IntOp::Sub),
-        "*" => Some(IntOp::Mul),
-        "/" => Some(IntOp::Div),
-        "%" => Some(IntOp::Rem),
-        "<<" => Some(IntOp::Shl),
-        ">>" => Some(IntOp::Shr),
-        "&" => Some(IntOp::And),
-        "|" => Some(IntOp::Or),
-        "^" => Some(IntOp::Xor),
-        _ => None,
+pub fn next_operator(words: &mut SplitWhitespace<'_>) -> Result<IntOp, RowFault> {
+    match next_word(words)? {
+        "+" => Ok(IntOp::Add),
+        "-" => Ok(IntOp::Sub),
+        "*" => Ok(IntOp::Mul),
+        "/" => Ok(IntOp::Div),
+        "%" => Ok(IntOp::Rem),
+        "<<" => Ok(IntOp::Shl),
+        ">>" => Ok(IntOp::Shr),
+        "&" => Ok(IntOp::And),
+        "|" => Ok(IntOp::Or),
+        "^" => Ok(IntOp::Xor),
+        _ => Err(RowFault::Unread),
     }
 }
 
 /// The comparison that the next word is.
-pub fn next_comparison(words: &mut SplitWhitespace<'_>) -> Option<CompareOp> {
-    match words.next()? {
-        "<" => Some(CompareOp::Lt),
-        "<=" => Some(CompareOp::Le),
-        ">" => Some(CompareOp::Gt),
-        ">=" => Some(CompareOp::Ge),
-        "==" => Some(CompareOp::Eq),
-        "!=" => Some(CompareOp::Ne),
-        _ => None,
+pub fn next_comparison(words: &mut SplitWhitespace<'_>) -> Result<CompareOp, RowFault> {
+    match next_word(words)? {
+        "<" => Ok(CompareOp::Lt),
+        "<=" => Ok(CompareOp::Le),
+        ">" => Ok(CompareOp::Gt),
+        ">=" => Ok(CompareOp::Ge),
+        "==" => Ok(CompareOp::Eq),
+        "!=" => Ok(CompareOp::Ne),
+        _ => Err(RowFault::Unread),
     }
 }
 
 /// The number that the next word is.
-pub fn next_number(words: &mut SplitWhitespace<'_>) -> Option<i128> {
-    words.next()?.parse().ok()
+pub fn next_number(words: &mut SplitWhitespace<'_>) -> Result<i128, RowFault> {
+    parsed::<i128>(next_word(words)?)
 }
 
 /// The value of a literal that the next word is.
-pub fn next_value(words: &mut SplitWhitespace<'_>) -> Option<u64> {
-    words.next()?.parse().ok()
+pub fn next_value(words: &mut SplitWhitespace<'_>) -> Result<u64, RowFault> {
+    parsed::<u64>(next_word(words)?)
 }
 
 /// Whether the base that the next word is stands for a decimal literal.
-pub fn next_base(words: &mut SplitWhitespace<'_>) -> Option<bool> {
-    match words.next()? {
-        "10" => Some(true),
-        "2" | "8" | "16" => Some(false),
-        _ => None,
+pub fn next_base(words: &mut SplitWhitespace<'_>) -> Result<bool, RowFault> {
+    match next_word(words)? {
+        "10" => Ok(true),
+        "2" | "8" | "16" => Ok(false),
+        _ => Err(RowFault::Unread),
     }
 }
 
@@ -107,17 +108,17 @@ pub struct Suffix {
 }
 
 /// The suffix that the next word is, `-` for none.
-pub fn next_suffix(words: &mut SplitWhitespace<'_>) -> Option<Suffix>
-    ensures { IfSome result (λ suffix. suffix.longs ≤ 2) }
+pub fn next_suffix(words: &mut SplitWhitespace<'_>) -> Result<Suffix, RowFault>
+    ensures { IfOk result (λ suffix. suffix.longs ≤ 2) }
 {
-    let (unsigned, longs) = match words.next()? {
+    let (unsigned, longs) = match next_word(words)? {
         "-" => (false, 0),
         "u" => (true, 0),
         "l" => (false, 1),
         "ul" => (true, 1),
         "ll" => (false, 2),
         "ull" => (true, 2),
-        _ => return None,
+        _ => return Err(RowFault::Unread),
     };
-    Some(Suffix { unsigned, longs })
+    Ok(Suffix { unsigned, longs })
 }

@@ -2,14 +2,13 @@
 
 use crate::asked::{Asked, LAST, Question};
 use crate::grown::text_of;
-use crate::parts::Part;
-use crate::plain::plain_same;
-use crate::reading::{Reading, tree_text};
-use crate::same::{Pair, is_same};
-use crate::span_of::span_text;
+use crate::reading::Start;
+use crate::same::is_same;
+use crate::told::{Reading, told};
 use cxx_base::{Memory, Names};
 use cxx_reading::Fault;
 use cxx_tokens::{LexFault, Tokens, tokens};
+use expr_show::{Part, plain_same};
 use std::alloc::Global;
 
 /// The most bytes of a text that has tokens.
@@ -60,14 +59,7 @@ fn answer_to_text(
         text,
         asked,
     };
-    let read = match asked.question {
-        Question::Tree(rule) => tree_text(rule, reading),
-        Question::Spans(rule) => tree_text(rule, reading),
-        Question::Span(part) => span_text(part, reading),
-        Question::Same(_) => Err(Fault::Syntax),
-        Question::Plain => Err(Fault::Syntax),
-    };
-    or_fault(alloc, read)
+    or_fault(alloc, told(reading))
 }
 
 // Whether a part of two texts is the same, which are read of one text with a `;` between them.
@@ -89,12 +81,13 @@ fn pair_same(
     let Some(tokens) = tokens_of(alloc, names, both.as_str())? else {
         return Ok(false);
     };
-    let pair = Pair {
+    let first = Start {
         alloc,
         tokens: &tokens,
+        at: 0,
         level: asked.level,
     };
-    match is_same(part, pair) {
+    match is_same(part, first) {
         Ok(same) => Ok(same),
         Err(Fault::Memory) => Err(Memory),
         Err(_) => Ok(false),
@@ -129,7 +122,7 @@ fn same_lines(
             if !out.is_empty() {
                 out.push_str(" ")?;
             }
-            out.push_str(format!(in alloc; "{}", n as u64 + 1)?.as_str())?;
+            write!(out, "{}", n as u64 + 1)?;
         }
     }
     Ok(out)

@@ -1,9 +1,10 @@
 //! What a heading asks of the lines below it.
 
-use crate::parts::{Part, part_named};
+use expr_show::{Part, part_named};
 use std::alloc::{AllocError, Global};
 
-/// The rules that are read by public calls. `Behind` is an expression of which the unary expression is read before.
+/// The rules of expressions and types that are read by public calls. `Behind` is an expression of which the unary expression is
+/// read before.
 #[derive(Clone, Copy)]
 pub enum Rule {
     Expr,
@@ -14,17 +15,29 @@ pub enum Rule {
     Splice,
     Args,
     Behind,
-    Body,
-    Unit,
 }
 
 #[derive(Clone, Copy)]
 pub enum Question {
     Tree(Rule),
     Spans(Rule),
+    Body,
+    Unit,
     Same(Part),
     Span(Part),
     Plain,
+}
+
+/// The rule of the trees in which a part stands.
+pub fn rule_of(part: Part) -> Rule {
+    match part {
+        Part::Expression | Part::Suffix | Part::Operation | Part::Initializer => Rule::Expr,
+        Part::Type | Part::Base => Rule::Type,
+        Part::Braced | Part::Designator => Rule::Braced,
+        Part::Arguments | Part::Argument => Rule::Args,
+        Part::Name | Part::Identifier => Rule::Name,
+        Part::Splice => Rule::Splice,
+    }
 }
 
 /// How a line is made a text: as it is, or with its parts repeated, of which those behind the middle may be left out.
@@ -57,8 +70,6 @@ fn rule_named(name: &str) -> Option<Rule> {
         "splice" => Some(Rule::Splice),
         "arguments" => Some(Rule::Args),
         "behind" => Some(Rule::Behind),
-        "body" => Some(Rule::Body),
-        "unit" => Some(Rule::Unit),
         _ => None,
     }
 }
@@ -74,10 +85,12 @@ fn question_of(first: &str, second: &str) -> Option<Question> {
 
 // A question of one word.
 fn short_question(word: &str) -> Option<Question> {
-    if word == "plain" {
-        return Some(Question::Plain);
+    match word {
+        "plain" => Some(Question::Plain),
+        "body" => Some(Question::Body),
+        "unit" => Some(Question::Unit),
+        name => Some(Question::Tree(rule_named(name)?)),
     }
-    Some(Question::Tree(rule_named(word)?))
 }
 
 // What is asked where a number stands behind this word too.

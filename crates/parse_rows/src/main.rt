@@ -23,65 +23,29 @@
 
 mod answer;
 mod asked;
-mod decl_print;
-mod expr_forms;
-mod form;
 mod grown;
-mod list_forms;
-mod parts;
-mod plain;
-mod print;
 mod reading;
 mod rows;
 mod same;
-mod span_of;
-mod stmt_print;
-mod symbols;
-mod words;
+mod told;
 
-use io_edge::{FromRead, ReadAll, Sink, Source, ToWrite, read_all, write_all};
+use io_edge::{FromRead, ToWrite};
+use row_edge::{RowFault, TextAnswers, run};
 use rows::answers;
 use std::alloc::Global;
 use std::process::ExitCode;
 
-/// The status where the input is no text.
-const REFUSED: u8 = 2;
+/// The rows of the parsers.
+struct ParseRows;
 
-/// The status where reading failed, and where writing did.
-const UNREAD: u8 = 3;
-
-const UNWRITTEN: u8 = 4;
-
-/// The status where memory ran out.
-const NO_MEMORY: u8 = 5;
-
-/// The most bytes of input.
-const MOST: usize = 4_194_304;
-
-fn written<K: Sink>(alloc: Global, bytes: &[u8], sink: &mut K) -> u8 {
-    let Ok(text) = str::from_utf8(bytes) else {
-        return REFUSED;
-    };
-    match answers(alloc, text) {
-        Ok(out) => match write_all(sink, out.as_str().as_bytes()) {
-            Ok(()) => 0,
-            Err(_) => UNWRITTEN,
-        },
-        Err(_) => NO_MEMORY,
-    }
-}
-
-fn run<S: Source, K: Sink>(alloc: Global, source: &mut S, sink: &mut K) -> u8 {
-    match read_all(alloc, source, MOST) {
-        Ok(bytes) => written(alloc, bytes.as_slice(), sink),
-        Err(ReadAll::TooLong) => REFUSED,
-        Err(ReadAll::Fault) => UNREAD,
-        Err(ReadAll::Memory) => NO_MEMORY,
+impl TextAnswers for ParseRows {
+    fn answers(alloc: Global, text: &str) -> Result<String, RowFault> {
+        Ok(answers(alloc, text)?)
     }
 }
 
 fn main(rt: HostRuntime) -> ExitCode {
     let mut source = FromRead::new(rt.stdin());
     let mut sink = ToWrite::new(rt.stdout());
-    ExitCode::from(run(rt.alloc(), &mut source, &mut sink))
+    ExitCode::from(run::<ParseRows, _, _>(rt.alloc(), &mut source, &mut sink))
 }

@@ -23,12 +23,10 @@ fn put_row(
     n: usize,
 ) -> Result<(), Memory> {
     out.push_str(rows.get(n).copied().unwrap_or(""))?;
-    let mut before = " => ";
-    for question in asked {
+    for (k, question) in asked.iter().enumerate() {
         let answer = answer(alloc, names, *question, rows, n)?;
-        out.push_str(before)?;
+        out.push_str(if k > 0 { "; " } else { " => " })?;
         out.push_str(answer.as_str())?;
-        before = "; ";
     }
     out.push_str("\n")?;
     Ok(())

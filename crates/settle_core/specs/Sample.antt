@@ -1,4 +1,4 @@
--- The meaning that the tests play. It has three pieces: 0 comes to 5, and 1 and 2 read it and come to 10 and 20 more.
+-- A small meaning, which the rows play. It has three pieces: 0 comes to 5, and 1 and 2 read it and come to 10 and 20 more.
 use Rattle.std.specs.Prelude.{ℕ, zero, suc, ◌+◌, ◌*◌, ◌%◌, ◌^◌, ◌≤◌, List, [], ◌∷◌, length, slice_index, ltb, Option, None, Some}
 use Rattle.settle_core.specs.Meant.{Meant}
 use Rattle.settle_core.specs.Next.{NextOf, Read, Ends, taken_outcome}

@@ -1,4 +1,4 @@
--- The laws of the meaning that the tests play.
+-- The laws of the meaning that the rows play.
 use Rattle.std.proofs.Common.{◌≡◌, ℕ, zero, suc, ◌<◌, ◌≤◌, List, [], length, get_or, Option, None, Some, refl, sym, ap, ◌∙◌, subst, arith}
 use Rattle.settle_core.specs.Meant.{Lawful, fold, outcome, reads}
 use Rattle.settle_core.specs.Next.{NextOf, Read, Ends, taken_outcome, firsts, IsNext}

@@ -24,6 +24,3 @@ pub use piece_state::PieceState;
 pub use played::Played;
 pub use stepping::{replay, step};
 pub use taken_list::TakenList;
-
-#[cfg(test)]
-mod tests;

@@ -2,8 +2,9 @@
 
 use crate::shown::{append_fault, append_kinds, append_places};
 use crate::source_text::source_bytes;
-use cxx_base::{MAX_SOURCE, Memory, Names};
+use cxx_base::{MAX_SOURCE, Names};
 use cxx_tokens::{numbers_are_places, tokens, tokens_are_longest};
+use row_edge::RowFault;
 use std::alloc::Global;
 
 /// What a row shows of the tokens of its source.
@@ -15,35 +16,32 @@ enum Shown {
 
 /// Puts the answer to a line at the end of a text. The line's first word says what is shown, and all behind the space after
 /// it is the source.
-pub fn append_answer(alloc: Global, out: &mut String, line: &str) -> Result<(), Memory> {
+pub fn append_answer(alloc: Global, out: &mut String, line: &str) -> Result<(), RowFault> {
     let (call, text) = line.split_once(' ').unwrap_or((line, ""));
     match call {
         "tokens" => append_source(alloc, out, Shown::Kinds, text),
         "places" => append_source(alloc, out, Shown::Places, text),
         "laws" => append_laws(out),
-        _ => append_unknown(out),
+        _ => Err(RowFault::Unread),
     }
 }
 
-// The answer to a line that asks for nothing, or whose source has an escape that is none.
-fn append_unknown(out: &mut String) -> Result<(), Memory> {
-    out.push_str("not understood")?;
-    Ok(())
-}
-
 // Each law, called once.
-fn append_laws(out: &mut String) -> Result<(), Memory> {
+fn append_laws(out: &mut String) -> Result<(), RowFault> {
     numbers_are_places();
     tokens_are_longest();
     out.push_str("hold")?;
     Ok(())
 }
 
-fn append_source(alloc: Global, out: &mut String, shown: Shown, text: &str) -> Result<(), Memory> {
-    match source_bytes(alloc, text)? {
-        Some(bytes) => append_tokens(alloc, out, shown, bytes.as_slice()),
-        None => append_unknown(out),
-    }
+fn append_source(
+    alloc: Global,
+    out: &mut String,
+    shown: Shown,
+    text: &str,
+) -> Result<(), RowFault> {
+    let bytes = source_bytes(alloc, text)?;
+    append_tokens(alloc, out, shown, bytes.as_slice())
 }
 
 fn append_tokens(
@@ -51,10 +49,10 @@ fn append_tokens(
     out: &mut String,
     shown: Shown,
     bytes: &[u8],
-) -> Result<(), Memory> {
+) -> Result<(), RowFault> {
     // The lexer takes no longer source. The input is shorter.
     if bytes.len() > MAX_SOURCE {
-        return append_unknown(out);
+        return Err(RowFault::Unread);
     }
     let mut names = Names::new(alloc)?;
     let known = names.len();

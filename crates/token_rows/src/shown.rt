@@ -1,8 +1,9 @@
 //! Tokens, places and faults in words.
 
 use crate::punctuators::spelling;
-use cxx_base::{Memory, Name, Names, Place};
+use cxx_base::{Name, Names, Place};
 use cxx_tokens::{LexFault, Token, TokenKind, Tokens};
+use row_edge::RowFault;
 use std::alloc::AllocError;
 
 // A token's kind: of integers whether they are decimal, whether they have a `u`, how many `l`, and the value.
@@ -31,7 +32,7 @@ fn append_name(out: &mut String, names: &Names, name: Name) -> Result<(), AllocE
 }
 
 /// The kinds of all tokens, each with a semicolon behind it.
-pub fn append_kinds(out: &mut String, names: &Names, tokens: &[Token]) -> Result<(), Memory> {
+pub fn append_kinds(out: &mut String, names: &Names, tokens: &[Token]) -> Result<(), RowFault> {
     if tokens.is_empty() {
         out.push_str("no token")?;
     }
@@ -57,7 +58,7 @@ pub fn append_places(
     names: &Names,
     known: u32,
     found: &Tokens,
-) -> Result<(), Memory> {
+) -> Result<(), RowFault> {
     for token in found.list.as_slice() {
         append_place(out, token.span.place)?;
         let first = token.span.first;
@@ -75,14 +76,14 @@ pub fn append_places(
 }
 
 /// A fault's code and place.
-pub fn append_fault(out: &mut String, fault: LexFault) -> Result<(), Memory> {
+pub fn append_fault(out: &mut String, fault: LexFault) -> Result<(), RowFault> {
     let (code, place) = match fault {
         LexFault::L1(place) => ("L1 ", place),
         LexFault::L2(place) => ("L2 ", place),
         LexFault::L3(place) => ("L3 ", place),
         LexFault::L4(place) => ("L4 ", place),
         LexFault::L5(place) => ("L5 ", place),
-        LexFault::Memory => return Err(Memory),
+        LexFault::Memory => return Err(RowFault::Memory),
     };
     out.push_str(code)?;
     append_place(out, place)?;

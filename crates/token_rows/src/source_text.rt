@@ -1,57 +1,49 @@
 //! The bytes that a row's source means.
 
-use cxx_base::{Bytes, Memory};
+use cxx_base::Bytes;
+use row_edge::RowFault;
 use std::alloc::Global;
 use std::str::Chars;
 
-/// The bytes of a source as a row writes it, or none where an escape is none of these: `\n`, `\r`, `\t`, `\\`, `\x` and two
-/// hexadecimal digits for a byte, and `\u{..}` for a character.
-pub fn source_bytes(alloc: Global, text: &str) -> Result<Option<Bytes>, Memory> {
+/// The bytes of a source as a row writes it. It is not understood where an escape is none of these: `\n`, `\r`, `\t`, `\\`, `\x` and
+/// two hexadecimal digits for a byte, and `\u{..}` for a character.
+pub fn source_bytes(alloc: Global, text: &str) -> Result<Bytes, RowFault> {
     let mut out = Bytes::new(alloc);
     let mut characters = text.chars();
     // each turn takes a character at least
     for _ in 0..text.len() {
-        let known = match characters.next() {
+        match characters.next() {
             Some('\\') => append_escape(&mut out, &mut characters)?,
             Some(character) => append_character(&mut out, character)?,
             None => break,
-        };
-        if !known {
-            return Ok(None);
         }
     }
-    Ok(Some(out))
+    Ok(out)
 }
 
-// The escape whose backslash was taken. Whether there is one.
-fn append_escape(out: &mut Bytes, characters: &mut Chars<'_>) -> Result<bool, Memory> {
+// The escape whose backslash was taken.
+fn append_escape(out: &mut Bytes, characters: &mut Chars<'_>) -> Result<(), RowFault> {
     match characters.next() {
         Some('n') => append_byte(out, b'\n'),
         Some('r') => append_byte(out, b'\r'),
         Some('t') => append_byte(out, b'\t'),
         Some('\\') => append_byte(out, b'\\'),
-        Some('x') => match byte_of(characters) {
-            Some(byte) => append_byte(out, byte),
-            None => Ok(false),
-        },
-        Some('u') => match character_of(characters) {
-            Some(character) => append_character(out, character),
-            None => Ok(false),
-        },
-        _ => Ok(false),
+        Some('x') => append_byte(out, byte_of(characters).ok_or(RowFault::Unread)?),
+        Some('u') => append_character(out, character_of(characters).ok_or(RowFault::Unread)?),
+        _ => Err(RowFault::Unread),
     }
 }
 
-fn append_byte(out: &mut Bytes, byte: u8) -> Result<bool, Memory> {
+fn append_byte(out: &mut Bytes, byte: u8) -> Result<(), RowFault> {
     out.push(byte)?;
-    Ok(true)
+    Ok(())
 }
 
-fn append_character(out: &mut Bytes, character: char) -> Result<bool, Memory> {
+fn append_character(out: &mut Bytes, character: char) -> Result<(), RowFault> {
     let mut buffer = [0; 4];
     let text = character.encode_utf8(&mut buffer);
     out.extend(text.as_bytes())?;
-    Ok(true)
+    Ok(())
 }
 
 // The number with one more hexadecimal digit.
