@@ -1,0 +1,5 @@
+pub mod Taken
+pub mod Meaning
+pub mod Standing
+pub mod Over
+pub mod Rows

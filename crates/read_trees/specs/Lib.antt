@@ -1,0 +1,4 @@
+pub mod Trees
+pub mod Walks
+pub mod Runs
+pub mod Loops
