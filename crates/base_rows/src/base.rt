@@ -1,8 +1,10 @@
-//! Rows of the base: names, bytes, outcomes, steps and limits.
+//! Rows of the base: names, bytes, outcomes, steps, limits, and what refusals are made of.
 
 use crate::bytes::{append_bytes, append_outcome};
+use crate::limits::append_limits;
 use crate::names::{append_found, append_numbers};
-use cxx_base::{Bytes, Limits, Memory, Ticks};
+use crate::notes::{append_laws, append_made, append_notes};
+use cxx_base::{Bytes, Memory, Names, Ticks};
 use row_edge::{RowFault, all_parsed, next_word, parsed, show, text_of};
 use std::alloc::{AllocError, Global};
 
@@ -11,7 +13,11 @@ pub fn append_answer(alloc: Global, out: &mut String, row: &str) -> Result<(), R
     let mut words = row.split_whitespace();
     match next_word(&mut words)? {
         "find" => append_found(alloc, out, text_of(next_word(&mut words)?)?),
-        "number" => append_numbers(alloc, out, words),
+        "number" => append_numbers(out, Names::new(alloc)?, words),
+        "number_of_source" => {
+            let source = text_of(next_word(&mut words)?)?;
+            append_numbers(out, Names::of_source(alloc, source.as_bytes())?, words)
+        }
         "bytes" => append_bytes(alloc, out, words),
         "bytes_of" => {
             let bytes = Bytes::from_vec(all_parsed::<u8>(alloc, words)?);
@@ -22,7 +28,10 @@ pub fn append_answer(alloc: Global, out: &mut String, row: &str) -> Result<(), R
             append_outcome(out, piece, all_parsed::<u64>(alloc, words)?)
         }
         "ticks" => append_ticks(out, all_parsed::<u32>(alloc, words)?.as_slice()),
-        "limits" => show(out, &Limits::default()),
+        "limits" => append_limits(out),
+        "notes" => append_notes(out, all_parsed::<u32>(alloc, words)?.as_slice()),
+        "made" => append_made(out),
+        "laws" => append_laws(alloc, out),
         // what want of memory says, alone and as an allocation that failed gives it
         "memory" => {
             let memory = Memory;

@@ -6,12 +6,10 @@ ghost use Rattle.class_layout.specs.Arrangement.{IsPart};
 use class_layout::{
     Part, is_the_least, layout, no_two_overlap, parts_are_in_order, whole_is_aligned,
 };
+use cxx_base::MAX_OBJECT;
 use row_edge::{RowFault, next_word, pair_of, parsed, show};
 use std::alloc::Global;
 use std::str::SplitWhitespace;
-
-/// The greatest size of a part.
-const MAX_PART: u64 = 2147483648;
 
 /// Of how many parts, the last ones, the offsets are told.
 const TOLD: usize = 8;
@@ -44,7 +42,7 @@ fn part_of(word: &str) -> Result<Part, RowFault>
     ensures { IfOk result IsPart }
 {
     let (size, power) = pair_of(word)?;
-    if size <= MAX_PART && power <= 31 {
+    if size <= MAX_OBJECT && power <= 31 {
         Ok(Part {
             size,
             align: 1 << power,

@@ -1,6 +1,7 @@
 //! Rows of names.
 
-use cxx_base::{Name, Names};
+use cxx_base::Names;
+use cxx_base::library::EXTRACT;
 use row_edge::{RowFault, show, text_of};
 use std::alloc::Global;
 use std::str::SplitWhitespace;
@@ -27,17 +28,17 @@ fn append_numbered(out: &mut String, names: &mut Names, text: &str) -> Result<()
 
 /// The texts, numbered one after another behind the names of the library, how many names there are then, and the fourth.
 pub fn append_numbers(
-    alloc: Global,
     out: &mut String,
+    names: Names,
     words: SplitWhitespace<'_>,
 ) -> Result<(), RowFault> {
-    let mut names = Names::new(alloc)?;
+    let mut names = names;
     for word in words {
         append_numbered(out, &mut names, text_of(word)?)?;
     }
     let count = names.len();
-    if count > 3 {
-        show(out, &(count, names.text(Name(3))))?;
+    if count > EXTRACT.0 {
+        show(out, &(count, names.text(EXTRACT)))?;
     }
     Ok(())
 }

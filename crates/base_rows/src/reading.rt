@@ -4,7 +4,7 @@ use crate::steps::append_steps;
 use containers::Items;
 use cxx_base::{Memory, Names};
 use cxx_reading::{
-    Fault, choices_take_the_longest, longer, missing_parts_are_no_fault, push,
+    ExprFault, choices_take_the_longest, longer, missing_parts_are_no_fault, push,
     repetitions_end_by_themselves, single,
 };
 use cxx_tokens::{LexFault, Tokens, tokens};
@@ -52,18 +52,18 @@ fn append_laws(out: &mut String, tokens: &Tokens) -> Result<(), RowFault> {
 }
 
 // A fault. Want of memory comes as either of two errors.
-fn fault_of(word: &str) -> Option<Fault> {
+fn fault_of(word: &str) -> Option<ExprFault> {
     match word {
-        "syntax" => Some(Fault::Syntax),
-        "deep" => Some(Fault::Deep),
-        "memory" => Some(Fault::from(Memory)),
-        "refused" => Some(Fault::from(AllocError)),
+        "syntax" => Some(ExprFault::S1),
+        "deep" => Some(ExprFault::S2),
+        "memory" => Some(ExprFault::from(Memory)),
+        "refused" => Some(ExprFault::from(AllocError)),
         _ => None,
     }
 }
 
 // A form that was read, as its tree and its end, or why it was not.
-fn form_of(word: &str) -> Result<Result<(u64, u32), Fault>, RowFault> {
+fn form_of(word: &str) -> Result<Result<(u64, u32), ExprFault>, RowFault> {
     match fault_of(word) {
         Some(fault) => Ok(Err(fault)),
         None => Ok(Ok(pair_of(word)?)),

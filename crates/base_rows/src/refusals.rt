@@ -1,11 +1,11 @@
 //! Rows of the names and texts of refusals.
 
 use cxx_base::Code::{
-    L1, L2, L3, L4, L5, L6, M1, M2, M3, M4, M5, M6, M7, N1, N2, N3, N4, N5, P1, R1, S1, S2, T1, T2,
-    T3, T4, T5, T6, T7, T8, T9, T10, V1, V2, V3, V4, V5, V6, V7, V8, V9, V10, V11, V12, V13, V14,
-    V15,
+    L1, L2, L3, L4, L5, L6, M1, M2, M3, M4, M5, M6, M7, N1, N2, N3, N4, N5, P1, P2, R1, S1, S2, T1,
+    T2, T3, T4, T5, T6, T7, T8, T9, T10, V1, V2, V3, V4, V5, V6, V7, V8, V9, V10, V11, V12, V13,
+    V14, V15,
 };
-use cxx_base::{Code, Place, Refusal};
+use cxx_base::{Code, Notes, Place, Refusal};
 use diagnostics::{name, text};
 use row_edge::{RowFault, next_word, parsed, show};
 
@@ -14,7 +14,7 @@ const L: [Code; 6] = [L1, L2, L3, L4, L5, L6];
 
 const S: [Code; 2] = [S1, S2];
 
-const P: [Code; 1] = [P1];
+const P: [Code; 2] = [P1, P2];
 
 const N: [Code; 5] = [N1, N2, N3, N4, N5];
 
@@ -61,11 +61,6 @@ pub fn append_answer(out: &mut String, row: &str) -> Result<(), RowFault> {
     }
     let code = code_of(next_word(&mut words)?)?;
     let detail = parsed::<u64>(next_word(&mut words)?)?;
-    let refusal = Refusal {
-        code,
-        detail,
-        place: Place::START,
-        inner: None,
-    };
+    let refusal = Refusal::met(code, detail, Place::START, Place::START, Notes::NONE);
     show(out, &(name(code), text(&refusal)))
 }

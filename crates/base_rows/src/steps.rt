@@ -1,7 +1,7 @@
 //! Rows of the steps over single tokens, each with the tokens at which it is taken.
 
 use cxx_reading::{
-    Fault, any_punctuator, any_word, character, eat, eat_word, expect, expect_word, identifier,
+    ExprFault, any_punctuator, any_word, character, eat, eat_word, expect, expect_word, identifier,
     integer, kind_ahead, kind_at, left, sees, sees_identifier, sees_word, span, text,
 };
 use cxx_tokens::Tokens;
@@ -112,7 +112,7 @@ fn append_plain(
         "character" => show(out, &character(tokens, at)),
         "text" => match text(alloc, tokens, at) {
             Ok((bytes, end)) => show(out, &(bytes.as_slice(), end)),
-            Err(Fault::Memory) => Err(RowFault::Memory),
+            Err(ExprFault::Memory) => Err(RowFault::Memory),
             Err(fault) => show(out, &fault),
         },
         _ => Err(RowFault::Unread),

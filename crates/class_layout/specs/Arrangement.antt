@@ -1,6 +1,7 @@
 -- The layout of a class from the sizes and alignments of its parts, in order ([class.mem], [basic.align]).
-use Rattle.std.specs.Prelude.{ℕ, ◌+◌, ◌^◌, ◌≤◌, max, nat_le, List, [], ◌∷◌, if◌then◌else◌, Result, Ok, Err}
+use Rattle.std.specs.Prelude.{ℕ, ◌+◌, ◌≤◌, max, nat_le, List, [], ◌∷◌, if◌then◌else◌, Result, Ok, Err}
 use Rattle.std.specs.Int.{next_multiple_of, IsPowerOfTwo}
+use Rattle.cxx_base.specs.declared.limits.TheConstants.{MAX_OBJECT}
 use Rattle.class_layout.specs.declared.part.Layout.{Layout}
 use Rattle.class_layout.specs.declared.part.Part.{Part}
 use Rattle.class_layout.specs.declared.part.TooLarge.{TooLarge}
@@ -8,8 +9,8 @@ use Rattle.class_layout.specs.declared.part.TooLarge.{TooLarge}
 -- the sizes and alignments that there are
 pub record IsPart (part : Part) : Type 0 where
   pub power : IsPowerOfTwo part.align
-  pub few : part.align ≤ 2 ^ 31
-  pub small : part.size ≤ 2 ^ 31
+  pub few : part.align ≤ MAX_OBJECT
+  pub small : part.size ≤ MAX_OBJECT
 
 -- A part begins at the least multiple of its alignment that is not below the end of the part before it.
 abbrev pub begin_of : ℕ → Part → ℕ
@@ -40,7 +41,7 @@ align_of parts = greatest_align 1 parts
 abbrev pub size_of : List Part → ℕ
 size_of parts = next_multiple_of (max (last_end 0 parts) 1) (align_of parts)
 
--- the whole, up to 2^31 bytes
+-- the whole, up to the greatest size of an object
 abbrev pub layout_of : List Part → Result Layout TooLarge
 layout_of parts =
-    if nat_le (size_of parts) (2 ^ 31) then Ok (record { size = size_of parts; align = align_of parts }) else Err (record {})
+    if nat_le (size_of parts) MAX_OBJECT then Ok (record { size = size_of parts; align = align_of parts }) else Err (record {})

@@ -18,9 +18,6 @@ pub struct Layout {
     pub align: u64,
 }
 
-/// The class would take more than 2^31 bytes.
+/// The class would take more bytes than [`MAX_OBJECT`](cxx_base::MAX_OBJECT).
 #[derive(Clone, Copy, Debug, PartialEq, Eq)]
 pub struct TooLarge;
-
-/// The greatest size of a class, and of a part of one, and the greatest alignment.
-pub const MAX_CLASS: u64 = 0x8000_0000;

@@ -1,2 +1,3 @@
+pub mod CallNotes
 pub mod LibraryNames
 pub mod TextLemmas

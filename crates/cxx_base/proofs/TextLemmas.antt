@@ -1,5 +1,5 @@
 -- A list of keys, seen as the list of their texts.
-use Rattle.std.proofs.Common.{◌≡◌, ℕ, suc, ◌+◌, ◌<◌, ◌≤◌, Bool, true, false, not, ◌||◌, cond, ltb, List, [], ◌∷◌, ◌++◌, length, map, take, get_or, Some, None, slice_get, refl, sym, ap, ◌∙◌, arith}
+use Rattle.std.proofs.Common.{◌≡◌, ℕ, suc, ◌+◌, ◌<◌, ◌≤◌, Bool, true, false, not, ◌||◌, cond, ltb, List, [], ◌∷◌, ◌++◌, length, map, take, get_or, Option, Some, None, IfSome, is_some, slice_get, refl, sym, ap, ◌∙◌, arith}
 use Rattle.std.proofs.lemmas.Bool.{ltb-true, ltb-false}
 use Rattle.std.proofs.lemmas.List.Sums.{fold-append}
 use Rattle.std.proofs.lemmas.List.{map-append, length-append, take_more}
@@ -7,6 +7,12 @@ use Rattle.std.specs.List.{list_any, position, position_or_len, IsDistinct, AllB
 use Rattle.std.specs.Str.{bytes_eq}
 use Rattle.std.specs.Cmp.Lexicographic.{bytes_decides}
 use Rattle.cxx_base.specs.Texts.{Text, has_text, number_of, with_text, with_texts, AreDistinct}
+
+-- an answer where a text stands, if it does
+pub record Finds (texts : List Text) (t : Text) (found : Option ℕ) : Type 0 where
+  pub number : IfSome found (λ n. n ≡ number_of texts t)
+  pub held : is_some found ≡ has_text texts t
+  pub stored : IfSome found (λ n. slice_get texts n ≡ Some t)
 
 module _ {K : Type 0} (f : K → Text) (t : Text) where
   -- the test that finds the key of the text
@@ -82,6 +88,13 @@ module _ {K : Type 0} (f : K → Text) (t : Text) where
       by : (b : Bool) → ltb (position_or_len is_key ks) (length ks) ≡ b → cond b (Some (position_or_len is_key ks)) None ≡ None → has_text (map f ks) t ≡ false
       by true e h = absurd (cc h)
       by false e h = has_text-map ks ∙ not_held ks (ltb-false _ _ e)
+
+  -- what a search of the keys answers
+  pub finds : (ks : List K) (found : Option ℕ) → found ≡ position is_key ks → Finds (map f ks) t found
+  finds ks None e = record { number = tt; held = sym (no_position ks (sym e)); stored = tt }
+  finds ks (Some n) e =
+      let at = found_position ks n (sym e) in
+      record { number = sym at.number; held = sym at.held; stored = at.stored }
 
 -- a key that goes into the keys as a set does
 module _ {K : Type 0} (f : K → Text) (k : K) (ks : List K) where

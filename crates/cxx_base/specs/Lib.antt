@@ -1,1 +1,4 @@
 pub mod Texts
+pub mod Library
+pub mod KeyedHash
+pub mod Refusals

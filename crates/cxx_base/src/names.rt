@@ -1,22 +1,21 @@
 //! Numbered names.
 
-ghost use Rattle.std.specs.Prelude.{◌≡◌, ◌+◌, ◌<◌, ◌≤◌, ◌^◌, length, map, slice_get, Some, OnOk, OnErr, IfOk, IfSome, is_some, codes};
-ghost use Rattle.cxx_base.specs.Texts.{number_of, with_text, with_texts, has_text, AreDistinct, library_names};
+ghost use Rattle.std.specs.Prelude.{◌≡◌, ◌<◌, ◌^◌, length, slice_get, Some, OnOk, OnErr, IfOk, IfSome, is_some, codes};
+ghost use Rattle.cxx_base.specs.Library.{AreInPlace, BeginsWithLibrary, library_names};
+ghost use Rattle.cxx_base.specs.Texts.{number_of, with_text, has_text, AreDistinct};
 
+use crate::keyed_hash::KeyedHash;
 use crate::library::LIBRARY;
 use crate::memory::Memory;
-use indexmap::IndexSet;
+use crate::name::Name;
+use crate::text_set::TextSet;
 use std::alloc::Global;
 use std::marker::Model;
 
-/// The number of a name.
-#[derive(Clone, Copy, Debug, PartialEq, Eq, PartialOrd, Ord, Hash)]
-pub struct Name(pub u32);
-
-/// The names of a source: a list of texts without repeats. The number of a name is its place, which it keeps.
-/// Contracts see the list.
+/// The names of a source: a list of texts without repeats, in which those of the library come first. The number of a name is
+/// its place, which it keeps. Contracts see the list.
 pub struct Names {
-    texts: IndexSet<String>,
+    texts: TextSet,
 }
 
 impl Drop for Names {
@@ -26,37 +25,36 @@ impl Drop for Names {
 }
 
 impl Model for Names {
-    ghost use Rattle.std.specs.Prelude.{List, ℕ, map, length, string_bytes, ◌≤◌, ◌^◌};
+    ghost use Rattle.std.specs.Prelude.{List, ℕ};
+    ghost use Rattle.cxx_base.specs.Library.{AreNames};
 
     ghost Value = { List (List ℕ) };
 
-    ghost view = { λ n. map string_bytes n.texts.keys };
+    ghost view = { λ n. n.texts };
 
-    ghost invariant = { λ n. length n.texts.keys ≤ 2 ^ 24 };
+    ghost invariant = { λ n. AreNames n.texts };
 }
 
 impl Names {
-    /// The names of the library.
+    /// The names of the library, for names that are chosen by no source.
     pub fn new(alloc: Global) -> Result<Names, Memory>
         ensures names { IfOk result (λ names. names ≡ library_names) }
         ensures few { IfOk result (λ names. length names ≡ 69) }
         ensures std { IfOk result (λ names. number_of names (codes "std") ≡ 0) }
     {
-        let mut names = Names {
-            texts: IndexSet::new(alloc),
-        };
-        names.number_each(&LIBRARY)?;
-        Ok(names)
+        Names::of_source(alloc, &[])
     }
 
-    fn number_each(&mut self, texts: &[&str]) -> Result<(), Memory>
-        requires { length self.old + length texts.now ≤ 2 ^ 24 }
-        ensures { OnOk result (self.new ≡ with_texts self.old (map (λ text. text.now) texts.now)) }
+    /// The names of the library, for those of a source of these bytes. The time that a name takes does not depend on how
+    /// the source chooses its names.
+    pub fn of_source(alloc: Global, source: &[u8]) -> Result<Names, Memory>
+        ensures names { IfOk result (λ names. names ≡ library_names) }
+        ensures few { IfOk result (λ names. length names ≡ 69) }
+        ensures std { IfOk result (λ names. number_of names (codes "std") ≡ 0) }
     {
-        for text in texts {
-            self.number(text)?;
-        }
-        Ok(())
+        let mut texts = TextSet::new(alloc, KeyedHash::of_source(source));
+        texts.insert_each(&LIBRARY)?;
+        Ok(Names { texts })
     }
 
     /// The number of a text, which goes to the end where it is new. Without memory nothing changes.
@@ -68,12 +66,8 @@ impl Names {
         ensures stored { IfOk result (λ name. slice_get self.new name.0 ≡ Some text.now) }
         ensures err { OnErr result (self.new ≡ self.old) }
     {
-        if let Some(name) = self.find(text) {
-            return Ok(name);
-        }
-        let owned = String::from_str(*self.texts.allocator(), text)?;
-        let (at, _) = self.texts.insert_full(owned)?;
-        Ok(Name(at as u32))
+        let at = self.texts.insert(text)?;
+        Ok(Name(at))
     }
 
     /// The text of a name.
@@ -81,13 +75,14 @@ impl Names {
         requires { name.0 < length self.now }
         ensures { slice_get self.now name.0 ≡ Some result.now }
     {
-        self.texts.get_index(name.0 as usize).unwrap().as_str()
+        self.texts.text(name.0)
     }
 
-    /// How many names there are. No text stands twice among them.
+    /// How many names there are. No text stands twice among them, and those of the library stand first.
     pub fn len(&self) -> u32
         ensures len { result ≡ length self.now }
         ensures distinct { AreDistinct self.now }
+        ensures library { BeginsWithLibrary self.now }
     {
         self.texts.len() as u32
     }
@@ -98,9 +93,16 @@ impl Names {
         ensures stored { IfSome result (λ name. slice_get self.now name.0 ≡ Some text.now) }
         ensures held { is_some result ≡ has_text self.now text.now }
     {
-        match self.texts.get_index_of(text) {
+        match self.texts.find(text) {
             Some(at) => Some(Name(at as u32)),
             None => None,
         }
     }
+}
+
+/// Each constant of `library` is the number of its name in all `Names`.
+pub fn names_are_in_place(names: &Names)
+    ensures { AreInPlace names.now }
+{
+    let _count = names.len();
 }

@@ -9,7 +9,7 @@ use Rattle.cxx_reading.specs.declared.seen.Seen.TheVariants.{Identifier, Integer
 use Rattle.cxx_reading.specs.Any.{given, word_of, any_word}
 use Rattle.cxx_reading.specs.Reading.{No, Nothing, and_then, present, kind, is_word, is_punctuator, is_identifier}
 use Rattle.cxx_reading.proofs.Starts.{Kinds, or_left, or_right, no_word_at, no_punctuator_at, no_identifier_at}
-use Rattle.cxx_grammar.specs.declared.library.TheConstants.{STD}
+use Rattle.cxx_base.specs.declared.library.TheConstants.{STD}
 use Rattle.cxx_grammar.specs.declared.words.TypeWords.{TypeWords}
 use Rattle.cxx_grammar.specs.Names.{named, vector_head, any_name, name}
 use Rattle.cxx_grammar.specs.Fundamentals.{no_words, with_word, type_word, number_type, fund}
@@ -62,7 +62,7 @@ module _ (tokens : Tokens) (i : ℕ) where
 
   pub no_vector_head : (k : Option Seen) → kind tokens i ≡ k → is_identifier k ≡ false → vector_head tokens i ≡ No Nothing
   unfolding vector_head
-  no_vector_head k e h = simp (no_named STD k e h)
+  no_vector_head k e h = simp (no_named STD.0 k e h)
 
   pub no_any_name : (k : Option Seen) → kind tokens i ≡ k → starts_name k ≡ false → any_name tokens i ≡ No Nothing
   unfolding any_name present

@@ -1,5 +1,5 @@
 -- Each rule of the grammar that gives a tree takes at least one token.
-use Rattle.std.proofs.Common.{ℕ, zero, suc, ◌-◌}
+use Rattle.std.proofs.Common.{ℕ, zero, suc}
 use Rattle.cxx_tokens.specs.declared.token.Tokens.{Tokens}
 use Rattle.cxx_reading.specs.Extents.{Forward, Rises}
 use Rattle.cxx_grammar.specs.Types as types
@@ -272,7 +272,7 @@ module _ (tokens : Tokens) where
   module _ (level : ℕ) where
     pub read : RisesRules (levels.read tokens level)
     unfolding levels.read
-    read = rules (257 - level)
+    read = rules (levels.levels_from level)
 
     pub rises_braced : Rises (lists.braced tokens (levels.read tokens level))
     rises_braced = braced tokens (levels.read tokens level) (forwards.read tokens level) read

@@ -1,5 +1,5 @@
 -- No rule of the grammar ends before the token at which it is read.
-use Rattle.std.proofs.Common.{ℕ, zero, suc, ◌-◌, List}
+use Rattle.std.proofs.Common.{ℕ, zero, suc, List}
 use Rattle.cxx_tokens.specs.declared.token.Tokens.{Tokens}
 use Rattle.cxx_tree.specs.declared.expr.ArgTree.{ArgTree}
 use Rattle.cxx_tree.specs.declared.expr.Suffix.{Suffix}
@@ -285,4 +285,31 @@ module _ (tokens : Tokens) where
 
   pub read : (level : ℕ) → ForwardRules (levels.read tokens level)
   unfolding levels.read
-  read level = rules (257 - level)
+  read level = rules (levels.levels_from level)
+
+  rules_name : (n : ℕ) → Forward (levels.rules tokens n).name
+  unfolding levels.rules
+  rules_name zero = record { at = λ i. tt }
+  rules_name (suc n) = shallow.forward_name tokens
+
+  rules_splice : (n : ℕ) → Forward (levels.rules tokens n).splice
+  unfolding levels.rules
+  rules_splice zero = record { at = λ i. tt }
+  rules_splice (suc n) = splice tokens (levels.rules tokens n) (rules n)
+
+  rules_args : (n : ℕ) → Forward (levels.rules tokens n).args
+  unfolding levels.rules
+  rules_args zero = record { at = λ i. tt }
+  rules_args (suc n) = args tokens (levels.rules tokens n) (rules n)
+
+  pub read_name : (level : ℕ) → Forward (levels.read tokens level).name
+  unfolding levels.read
+  read_name level = rules_name (levels.levels_from level)
+
+  pub read_splice : (level : ℕ) → Forward (levels.read tokens level).splice
+  unfolding levels.read
+  read_splice level = rules_splice (levels.levels_from level)
+
+  pub read_args : (level : ℕ) → Forward (levels.read tokens level).args
+  unfolding levels.read
+  read_args level = rules_args (levels.levels_from level)

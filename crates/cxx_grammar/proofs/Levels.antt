@@ -1,5 +1,6 @@
 -- The rules at a level, from those one level deeper.
 use Rattle.std.proofs.Common.{◌≡◌, ℕ, suc, ◌+◌, ◌-◌, ◌≤◌, ap, arith}
+use Rattle.cxx_base.specs.declared.limits.TheConstants.{TOO_DEEP}
 use Rattle.cxx_tokens.specs.declared.token.Tokens.{Tokens}
 use Rattle.cxx_reading.specs.Reading.{No, TooDeep}
 use Rattle.cxx_grammar.specs.Names as names
@@ -7,12 +8,12 @@ use Rattle.cxx_grammar.specs.Types as types
 use Rattle.cxx_grammar.specs.Lists as lists
 use Rattle.cxx_grammar.specs.Unaries as unaries
 use Rattle.cxx_grammar.specs.Expressions as expressions
-use Rattle.cxx_grammar.specs.Read.{rules, read}
+use Rattle.cxx_grammar.specs.Read.{levels_from, rules, read}
 use Rattle.cxx_grammar.specs.Joined.{sized_here}
 
 module _ (tokens : Tokens) (level i : ℕ) where
   -- at the last level
-  module _ (last : level ≡ 257) where
+  module _ (last : level ≡ TOO_DEEP) where
     pub last_expr : (read tokens level).expr i ≡ No TooDeep
     unfolding read rules
     last_expr = rw last
@@ -46,8 +47,8 @@ module _ (tokens : Tokens) (level i : ℕ) where
     last_sized = rw last
 
   -- at each other
-  module _ (low : level ≤ 257) (before : level ≡ 257 → ⊥) where
-    one_more : 257 - level ≡ suc (257 - (level + 1))
+  module _ (low : level ≤ TOO_DEEP) (before : level ≡ TOO_DEEP → ⊥) where
+    one_more : levels_from level ≡ suc (levels_from (level + 1))
     one_more = omega arith
 
     pub at_expr : (read tokens level).expr i ≡ expressions.expr tokens (read tokens (level + 1)) i

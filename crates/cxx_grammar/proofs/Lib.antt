@@ -1,10 +1,13 @@
 pub mod Levels
+pub mod NestLevels
 pub mod Begins
 pub mod TypeArms
 pub mod Tables
 pub mod Shallow
 pub mod Forwards
 pub mod Ends
+pub mod Bodies
+pub mod Items
 pub mod JoinedForms
 pub mod PrimaryArms
 pub mod SuffixArms

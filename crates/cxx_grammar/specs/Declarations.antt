@@ -1,48 +1,36 @@
--- Declarations ([dcl.dcl], [class], [dcl.enum]) at a level.
-use Rattle.std.specs.Prelude.{ℕ, zero, suc, ◌+◌, ◌-◌, Bool, true, false, ◌&&◌, ◌||◌, not, if◌then◌else◌, ◌==◌, nat_le, List, [], ◌∷◌, Option, Some, None}
+-- Declarations ([dcl.dcl], [dcl.fct], [dcl.enum]) at a level, but for classes. What has a body is given the rule of the statements
+-- in it, `inside`.
+use Rattle.std.specs.Prelude.{ℕ, ◌+◌, Bool, true, false, ◌&&◌, ◌||◌, not, if◌then◌else◌, ◌==◌, nat_le, List, [], ◌∷◌, Option, Some, None}
+use Rattle.cxx_base.specs.declared.limits.TheConstants.{MAX_NESTING}
 use Rattle.cxx_tree.specs.declared.expr.Expr.{Expr}
 use Rattle.cxx_tree.specs.declared.expr.TypeTree.{TypeTree}
-use Rattle.cxx_tree.specs.declared.decl.Decl.{Decl}
-use Rattle.cxx_tree.specs.declared.decl.Decl.TheVariants as decl-of
+use Rattle.cxx_tree.specs.declared.stmt.Stmt.{Stmt}
+use Rattle.cxx_tree.specs.declared.stmt.BodyTree.{BodyTree}
+use Rattle.cxx_tree.specs.declared.stmt.BodyTree.TheVariants as body-of
 use Rattle.cxx_tree.specs.declared.decl.NamespaceAliasTree.{NamespaceAliasTree}
 use Rattle.cxx_tree.specs.declared.decl.NamespaceNamed.{NamespaceNamed}
 use Rattle.cxx_tree.specs.declared.decl.NamespaceNamed.TheVariants as namespace-of
-use Rattle.cxx_tree.specs.declared.decl.BlockTree.{BlockTree}
+use Rattle.cxx_tree.specs.declared.decl.BlockTree.{BlockTree, roll-BlockTree}
 use Rattle.cxx_tree.specs.declared.decl.Specifiers.{Specifiers}
 use Rattle.cxx_tree.specs.declared.decl.Evaluated.{Evaluated}
 use Rattle.cxx_tree.specs.declared.decl.Evaluated.TheVariants as evaluated
 use Rattle.cxx_tree.specs.declared.decl.VariableTree.{VariableTree}
-use Rattle.cxx_tree.specs.declared.decl.FunctionTree.{FunctionTree}
+use Rattle.cxx_tree.specs.declared.decl.FunctionTree.{FunctionTree, roll-FunctionTree}
 use Rattle.cxx_tree.specs.declared.decl.ParameterTree.{ParameterTree}
 use Rattle.cxx_tree.specs.declared.decl.EnumTree.{EnumTree}
 use Rattle.cxx_tree.specs.declared.decl.EnumeratorTree.{EnumeratorTree}
 use Rattle.cxx_tree.specs.declared.decl.ClassKey.{ClassKey}
 use Rattle.cxx_tree.specs.declared.decl.ClassKey.TheVariants as key-of
-use Rattle.cxx_tree.specs.declared.decl.Access.{Access}
-use Rattle.cxx_tree.specs.declared.decl.Access.TheVariants as access-of
-use Rattle.cxx_tree.specs.declared.decl.ClassTree.{ClassTree}
-use Rattle.cxx_tree.specs.declared.decl.ClassTree.TheVariants as class-of
-use Rattle.cxx_tree.specs.declared.decl.BaseTree.{BaseTree}
-use Rattle.cxx_tree.specs.declared.decl.BasedTree.{BasedTree}
-use Rattle.cxx_tree.specs.declared.decl.BasedTree.TheVariants as based-of
-use Rattle.cxx_tree.specs.declared.decl.Member.{Member}
-use Rattle.cxx_tree.specs.declared.decl.Member.TheVariants as member-of
-use Rattle.cxx_tree.specs.declared.decl.ConstructorTree.{ConstructorTree}
-use Rattle.cxx_tree.specs.declared.decl.MemberInit.{MemberInit}
-use Rattle.cxx_tree.specs.declared.decl.MemberInitValue.{MemberInitValue}
-use Rattle.cxx_tree.specs.declared.decl.MemberInitValue.TheVariants as value-of
-use Rattle.cxx_tree.specs.declared.decl.DestructorTree.{DestructorTree}
-use Rattle.cxx_tree.specs.declared.stmt.BodyTree.{BodyTree}
 use Rattle.cxx_tokens.specs.declared.token.Tokens.{Tokens}
 use Rattle.cxx_tokens.specs.declared.mark.TheConstants as mark
 use Rattle.cxx_tokens.specs.declared.keyword.TheConstants as keyword
 use Rattle.cxx_reading.specs.Any.{given, any_word}
-use Rattle.cxx_reading.specs.Reading.{No, TooDeep, Rule, ◌>>=◌, ◌>>◌, ◌<|>◌, pure, too_deep, guard, present, optional, if_any, punctuator, word, identifier, repeated, node}
-use Rattle.cxx_grammar.specs.Statements.{bounds, init, fit_bounds, assert, alias, body}
+use Rattle.cxx_reading.specs.Reading.{No, TooDeep, Rule, ◌>>=◌, ◌>>◌, ◌<|>◌, pure, guard, present, optional, if_any, punctuator, word, identifier, repeated, node}
 use Rattle.cxx_grammar.specs.declared.specifier.DeclWords.{DeclWords}
 use Rattle.cxx_grammar.specs.Sequences.{many, next_of}
 use Rattle.cxx_grammar.specs.Rules.{Rules}
 use Rattle.cxx_grammar.specs.Read.{read}
+use Rattle.cxx_grammar.specs.Locals.{bounds, init, fit_bounds}
 
 -- ---- words before a declared type or name
 
@@ -87,21 +75,6 @@ specifiers_of t = record { is_inline = t.is_inline; is_static = t.is_static; eva
 abbrev pub key_of_word : ℕ → Option ClassKey
 key_of_word n = if n == keyword.STRUCT then Some key-of.Struct else (if n == keyword.CLASS then Some key-of.Class else None)
 
-abbrev pub access_of_word : ℕ → Option Access
-access_of_word n = if n == keyword.PUBLIC then Some access-of.Public
-    else (if n == keyword.PROTECTED then Some access-of.Protected
-    else (if n == keyword.PRIVATE then Some access-of.Private else None))
-
--- whether a member that is a constructor or a destructor has the name of the class
-abbrev pub is_named : ℕ → Member → Bool
-is_named n (member-of.Constructor c) = c.name.name.0 == n
-is_named n (member-of.Destructor d) = d.name.name.0 == n
-is_named n _ = true
-
-abbrev pub are_named : ℕ → List Member → Bool
-are_named n [] = true
-are_named n (m ∷ more) = is_named n m && are_named n more
-
 module _ (tokens : Tokens) where
   abbrev p : ℕ → Rule (Unit {0})
   p = punctuator tokens
@@ -111,7 +84,7 @@ module _ (tokens : Tokens) where
 
   -- a rule that is read at a level: past the last one each rule is too deep
   abbrev pub read_at : {A : Type 0} → ℕ → Rule A → Rule A
-  read_at level q = λ i. if nat_le level 256 then q i else No TooDeep
+  read_at level q = λ i. if nat_le level MAX_NESTING then q i else No TooDeep
 
   unfoldable pub specifier : DeclWords → Rule DeclWords
   specifier found = do n ← any_word tokens; given (with_spec found n)
@@ -131,21 +104,53 @@ module _ (tokens : Tokens) where
   unfoldable pub key : Rule ClassKey
   key = do n ← any_word tokens; given (key_of_word n)
 
-  -- access : "public" | "protected" | "private"
-  unfoldable pub access : Rule Access
-  access = do n ← any_word tokens; given (access_of_word n)
-
   -- "const"?, of a member function alone
   abbrev pub const_if : Bool → Rule Bool
   const_if true = present (w keyword.CONST)
   const_if false = pure false
 
-  -- access ":"
-  unfoldable pub access_member : Rule Member
-  access_member = node tokens (do a ← access; p mark.COLON; pure (λ s. member-of.Access s a))
+  -- ---- bodies
 
-  unfoldable pub empty_member : Rule Member
-  empty_member = node tokens (do p mark.SEMICOLON; pure (λ s. member-of.Empty s))
+  -- The statements of a body, each read by the rule. It is asked at least once, so that a body of the last level is too deep
+  -- also where the text ends behind its brace.
+  unfoldable pub more_statements : Rule Stmt → List Stmt → Rule (List Stmt)
+  more_statements inside = many tokens inside
+
+  unfoldable pub some_statements : Rule Stmt → Rule (List Stmt)
+  some_statements inside = do
+    first ← inside
+    more_statements inside (first ∷ [])
+
+  -- stmt*
+  unfoldable pub statements : Rule Stmt → Rule (List Stmt)
+  statements inside = if_any (some_statements inside)
+
+  -- body : "{" stmt* "}"
+  unfoldable pub body : Rule Stmt → Rule BodyTree
+  body inside = node tokens (do
+    p mark.LEFT_BRACE
+    all ← statements inside
+    p mark.RIGHT_BRACE
+    pure (λ s. body-of.Body s all))
+
+  -- block : "consteval" body
+  unfoldable pub block : Rule Stmt → Rule BlockTree
+  block inside = node tokens (do
+    w keyword.CONSTEVAL
+    b ← body inside
+    pure (λ s. roll-BlockTree (record { span = s; body = b })))
+
+  unfoldable pub without_body : Rule (Option BodyTree)
+  without_body = do p mark.SEMICOLON; pure None
+
+  unfoldable pub with_body : Rule Stmt → Rule (Option BodyTree)
+  with_body inside = do b ← body inside; pure (Some b)
+
+  -- ";" | body
+  unfoldable pub body_or_none : Rule Stmt → Rule (Option BodyTree)
+  body_or_none inside = without_body <|> with_body inside
+
+  -- ---- forms at a level: `here` are the rules of expressions there, `deeper` those one level deeper
 
   module _ (level : ℕ) where
     abbrev here : Rules
@@ -172,10 +177,6 @@ module _ (tokens : Tokens) where
       x ← namespace_named
       p mark.SEMICOLON
       pure (λ s. record { span = s; name = n; of = x }))
-
-    -- block : "consteval" body
-    unfoldable pub block : Rule BlockTree
-    block = node tokens (do w keyword.CONSTEVAL; b ← body tokens level; pure (λ s. record { span = s; body = b }))
 
     -- "=" expr
     unfoldable pub enumerator_value : Rule Expr
@@ -261,230 +262,15 @@ module _ (tokens : Tokens) where
       p mark.RIGHT_PAREN
       pure all
 
-    unfoldable pub without_body : Rule (Option BodyTree)
-    without_body = do p mark.SEMICOLON; pure None
-
-    unfoldable pub with_body : Rule (Option BodyTree)
-    with_body = do b ← body tokens level; pure (Some b)
-
-    -- ";" | body
-    unfoldable pub body_or_none : Rule (Option BodyTree)
-    body_or_none = without_body <|> with_body
-
     -- func : spec* type ID "(" param,* ")" "noexcept"? (";" | body); in a class it is a member function
-    unfoldable pub function : Bool → Rule FunctionTree
-    function in_class = node tokens (do
+    unfoldable pub function : Rule Stmt → Bool → Rule FunctionTree
+    function inside in_class = node tokens (do
       words ← specifiers no_words
       returned ← here.type_tree
       n ← identifier tokens
       all ← parameters
       is_const ← const_if in_class
       is_noexcept ← present (w keyword.NOEXCEPT)
-      b ← body_or_none
+      b ← body_or_none inside
       guard (stand_together words)
-      pure (λ s. record { span = s; specifiers = specifiers_of words; returned = returned; name = n; parameters = all; is_const = is_const; is_noexcept = is_noexcept; body = b }))
-
-    -- ---- classes
-
-    unfoldable pub based_name : Rule BasedTree
-    based_name = do n ← here.name; pure (based-of.Name n)
-
-    unfoldable pub based_splice : Rule BasedTree
-    based_splice = do x ← here.splice; pure (based-of.Splice x)
-
-    unfoldable pub based_typename : Rule BasedTree
-    based_typename = do w keyword.TYPENAME; x ← here.splice; pure (based-of.Typename x)
-
-    unfoldable pub based : Rule BasedTree
-    based = based_name <|> based_splice <|> based_typename
-
-    -- base : access? (name | splice | "typename" splice)
-    unfoldable pub base : Rule BaseTree
-    base = node tokens (do
-      a ← optional access
-      x ← based
-      pure (λ s. record { span = s; access = a; of = x }))
-
-    unfoldable pub more_bases : List BaseTree → Rule (List BaseTree)
-    more_bases = many tokens (next_of tokens base)
-
-    -- ":" base,+
-    unfoldable pub some_bases : Rule (List BaseTree)
-    some_bases = do
-      p mark.COLON
-      first ← base
-      more_bases (first ∷ [])
-
-    -- (":" base,+)?
-    unfoldable pub bases : Rule (List BaseTree)
-    bases = if_any some_bases
-
-    unfoldable pub value_args : Rule MemberInitValue
-    value_args = do x ← here.args; pure (value-of.Args x)
-
-    unfoldable pub value_braced : Rule MemberInitValue
-    value_braced = do x ← here.braced; pure (value-of.Braced x)
-
-    unfoldable pub init_value : Rule MemberInitValue
-    init_value = value_args <|> value_braced
-
-    -- minit : name ("(" arg,* ")" | braced)
-    unfoldable pub member_init : Rule MemberInit
-    member_init = node tokens (do
-      n ← here.name
-      x ← init_value
-      pure (λ s. record { span = s; name = n; value = x }))
-
-    unfoldable pub more_inits : List MemberInit → Rule (List MemberInit)
-    more_inits = many tokens (next_of tokens member_init)
-
-    -- ":" minit,+
-    unfoldable pub some_inits : Rule (List MemberInit)
-    some_inits = do
-      p mark.COLON
-      first ← member_init
-      more_inits (first ∷ [])
-
-    -- (":" minit,+)?
-    unfoldable pub member_inits : Rule (List MemberInit)
-    member_inits = if_any some_inits
-
-    -- ("explicit" | spec)* ID "(" param,* ")" "noexcept"? (":" minit,+)? body
-    unfoldable pub constructor_form : Rule ConstructorTree
-    constructor_form = node tokens (do
-      words ← constructor_words no_words
-      n ← identifier tokens
-      all ← parameters
-      is_noexcept ← present (w keyword.NOEXCEPT)
-      inits ← member_inits
-      b ← body tokens level
-      guard (stand_together words)
-      pure (λ s. record { span = s; is_explicit = words.is_explicit; specifiers = specifiers_of words; name = n; parameters = all; is_noexcept = is_noexcept; inits = inits; body = b }))
-
-    -- spec* "~" ID "(" ")" "noexcept"? body
-    unfoldable pub destructor_form : Rule DestructorTree
-    destructor_form = node tokens (do
-      words ← specifiers no_words
-      p mark.TILDE
-      n ← identifier tokens
-      p mark.LEFT_PAREN
-      p mark.RIGHT_PAREN
-      is_noexcept ← present (w keyword.NOEXCEPT)
-      b ← body tokens level
-      guard (stand_together words)
-      pure (λ s. record { span = s; specifiers = specifiers_of words; name = n; is_noexcept = is_noexcept; body = b }))
-
-    -- ---- members and declarations, but for classes
-
-    unfoldable pub alias_member : Rule Member
-    alias_member = do x ← alias tokens level; pure (member-of.Alias x)
-
-    unfoldable pub enum_member : Rule Member
-    enum_member = do x ← enumeration; pure (member-of.Enum x)
-
-    unfoldable pub assert_member : Rule Member
-    assert_member = do x ← assert tokens (level + 1); pure (member-of.Assert x)
-
-    unfoldable pub block_member : Rule Member
-    block_member = do x ← block; pure (member-of.Block x)
-
-    unfoldable pub data_member : Rule Member
-    data_member = do x ← variable true; pure (member-of.Data x)
-
-    unfoldable pub function_member : Rule Member
-    function_member = do x ← function true; pure (member-of.Function x)
-
-    unfoldable pub constructor_member : Rule Member
-    constructor_member = do x ← constructor_form; pure (member-of.Constructor x)
-
-    unfoldable pub destructor_member : Rule Member
-    destructor_member = do x ← destructor_form; pure (member-of.Destructor x)
-
-    unfoldable pub namespace_decl : Rule Decl
-    namespace_decl = do x ← namespace_alias; pure (decl-of.NamespaceAlias x)
-
-    unfoldable pub alias_decl : Rule Decl
-    alias_decl = do x ← alias tokens level; pure (decl-of.Alias x)
-
-    unfoldable pub enum_decl : Rule Decl
-    enum_decl = do x ← enumeration; pure (decl-of.Enum x)
-
-    unfoldable pub function_decl : Rule Decl
-    function_decl = do x ← function false; pure (decl-of.Function x)
-
-    unfoldable pub variable_decl : Rule Decl
-    variable_decl = do x ← variable false; pure (decl-of.Variable x)
-
-    unfoldable pub assert_decl : Rule Decl
-    assert_decl = do x ← assert tokens (level + 1); pure (decl-of.Assert x)
-
-    unfoldable pub block_decl : Rule Decl
-    block_decl = do x ← block; pure (decl-of.Block x)
-
-    -- Forms of a class, where `inner` reads a member one level deeper.
-    module _ (inner : Rule Member) where
-      -- The members of a class. The rule is asked at least once, as with statements.
-      unfoldable pub more_members : List Member → Rule (List Member)
-      more_members = many tokens inner
-
-      unfoldable pub some_members : Rule (List Member)
-      some_members = do
-        first ← inner
-        more_members (first ∷ [])
-
-      -- member*
-      unfoldable pub members : Rule (List Member)
-      members = if_any some_members
-
-      -- key ID ";"
-      unfoldable pub class_declared : Rule ClassTree
-      class_declared = node tokens (do
-        k ← key
-        n ← identifier tokens
-        p mark.SEMICOLON
-        pure (λ s. class-of.Declared s k n))
-
-      -- key ID (":" base,+)? "{" member* "}" ";", where its own constructors and destructors have its name
-      unfoldable pub class_defined : Rule ClassTree
-      class_defined = node tokens (do
-        k ← key
-        n ← identifier tokens
-        from ← bases
-        p mark.LEFT_BRACE
-        all ← members
-        p mark.RIGHT_BRACE
-        p mark.SEMICOLON
-        guard (are_named n.name.0 all)
-        pure (λ s. class-of.Defined s k n from all))
-
-      -- class : key ID ";" | key ID (":" base,+)? "{" member* "}" ";"
-      unfoldable pub class : Rule ClassTree
-      class = class_declared <|> class_defined
-
-      unfoldable pub class_member : Rule Member
-      class_member = do x ← class; pure (member-of.Class x)
-
-      -- member : access ":" | ";" | alias | class | enum | assert | block | var | a member function | a constructor | a destructor
-      unfoldable pub member : Rule Member
-      member = access_member <|> empty_member <|> alias_member <|> class_member <|> enum_member <|> assert_member <|> block_member
-          <|> data_member <|> function_member <|> constructor_member <|> destructor_member
-
-      unfoldable pub class_decl : Rule Decl
-      class_decl = do x ← class; pure (decl-of.Class x)
-
-      -- decl : nsalias | alias | class | enum | func | var | assert | block
-      unfoldable pub decl : Rule Decl
-      decl = namespace_decl <|> alias_decl <|> class_decl <|> enum_decl <|> function_decl <|> variable_decl <|> assert_decl <|> block_decl
-
-  -- members at a level, of which so many are left with it
-  unfoldable pub members_at : ℕ → ℕ → Rule Member
-  members_at zero level = too_deep
-  members_at (suc n) level = member level (members_at n (level + 1))
-
-  -- the same, of which level 256 is the last
-  unfoldable pub read_members : ℕ → Rule Member
-  read_members level = members_at (257 - level) level
-
-  -- a declaration of a unit stands at level 0
-  unfoldable pub declaration : Rule Decl
-  declaration = decl 0 (read_members 1)
+      pure (λ s. roll-FunctionTree (record { span = s; specifiers = specifiers_of words; returned = returned; name = n; parameters = all; is_const = is_const; is_noexcept = is_noexcept; body = b })))

@@ -19,7 +19,7 @@ no_words = record { sign = sign.None; width = width.None; has_int = false }
 
 -- Words may stand together in any order: `short`, `long` or twice `long`, with `int`, with one of `signed` and `unsigned`, of
 -- which one or two may be missing; and `char` alone, or behind one of `signed` and `unsigned`. Nothing stands behind `char`.
--- The list that begins at a token is the longest whose words may stand together. Each front of such a list is one, but the
+-- The list that begins at a token is the longest whose words may stand together. Each prefix of such a list is one, but the
 -- empty one, so it is read word by word.
 abbrev pub with_sign : Sign → Sign → Width → Bool → Option TypeWords
 with_sign s sign.None width.Char b = None

@@ -11,6 +11,11 @@ pub mod Read
 pub mod Rules
 pub mod Joined
 pub mod Sequences
-pub mod Statements
+pub mod Locals
 pub mod Declarations
+pub mod Nests
+pub mod Classes
+pub mod Statements
+pub mod Nesting
 pub mod Units
+pub mod Laws

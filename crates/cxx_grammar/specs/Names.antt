@@ -1,19 +1,12 @@
 -- Names ([expr.prim.id]).
-use Rattle.std.specs.Prelude.{◌≡◌, ℕ, ◌-◌, Bool, false, ◌&&◌, ◌==◌, nat_le, List, [], ◌∷◌, ◌++◌, length, slice_get, Option, Some, None, codes}
+use Rattle.std.specs.Prelude.{ℕ, ◌-◌, Bool, false, ◌&&◌, ◌==◌, nat_le, List, [], ◌∷◌, ◌++◌, length, slice_get, Option, Some, None}
 use Rattle.cxx_tree.specs.declared.identifier.Identifier.{Identifier}
 use Rattle.cxx_tree.specs.declared.identifier.NameTree.{NameTree}
-use Rattle.cxx_base.specs.Texts.{library_names}
+use Rattle.cxx_base.specs.declared.library.TheConstants.{STD, VECTOR, EXTRACT}
 use Rattle.cxx_tokens.specs.declared.token.Tokens.{Tokens}
 use Rattle.cxx_tokens.specs.declared.mark.TheConstants.{SCOPE, LESS}
 use Rattle.cxx_reading.specs.Any.{unless}
 use Rattle.cxx_reading.specs.Reading.{Rule, ◌>>=◌, ◌>>◌, pure, present, guard, punctuator, identifier, sees_punctuator, repeated, node}
-use Rattle.cxx_grammar.specs.declared.library.TheConstants.{STD, VECTOR, EXTRACT}
-
--- the numbers of the names that the grammar knows
-pub record AreNamed : Type 0 where
-  pub std : slice_get library_names STD ≡ Some (codes "std")
-  pub vector : slice_get library_names VECTOR ≡ Some (codes "vector")
-  pub extract : slice_get library_names EXTRACT ≡ Some (codes "extract")
 
 abbrev pub is_part : ℕ → Option Identifier → Bool
 is_part n (Some part) = part.name.0 == n
@@ -21,7 +14,7 @@ is_part n None = false
 
 -- whether a name has at least two parts and the last is `extract`
 abbrev pub is_extract : NameTree → Bool
-is_extract n = nat_le 1 (length n.more) && is_part EXTRACT (slice_get n.more (length n.more - 1))
+is_extract n = nat_le 1 (length n.more) && is_part EXTRACT.0 (slice_get n.more (length n.more - 1))
 
 module _ (tokens : Tokens) where
   unfoldable pub named : ℕ → Rule (Unit {0})
@@ -31,7 +24,7 @@ module _ (tokens : Tokens) where
 
   -- The four tokens std :: vector < always begin the type of a vector, so no name begins there.
   unfoldable pub vector_head : Rule (Unit {0})
-  vector_head = do named STD; punctuator tokens SCOPE; named VECTOR; punctuator tokens LESS
+  vector_head = do named STD.0; punctuator tokens SCOPE; named VECTOR.0; punctuator tokens LESS
 
   -- "::" ID
   unfoldable pub part : Rule Identifier

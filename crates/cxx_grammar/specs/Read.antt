@@ -1,5 +1,6 @@
 -- The rules at each level of nesting.
 use Rattle.std.specs.Prelude.{ℕ, zero, suc, ◌-◌}
+use Rattle.cxx_base.specs.declared.limits.TheConstants.{TOO_DEEP}
 use Rattle.cxx_tokens.specs.declared.token.Tokens.{Tokens}
 use Rattle.cxx_reading.specs.Reading.{too_deep}
 use Rattle.cxx_grammar.specs.Rules.{Rules}
@@ -8,6 +9,10 @@ use Rattle.cxx_grammar.specs.Types.{splice, type_tree}
 use Rattle.cxx_grammar.specs.Lists.{args, braced}
 use Rattle.cxx_grammar.specs.Unaries.{unary}
 use Rattle.cxx_grammar.specs.Expressions.{expr}
+
+-- how many levels there are from this one on; what stands deeper than the last one is too deep
+abbrev pub levels_from : ℕ → ℕ
+levels_from level = TOO_DEEP - level
 
 module _ (tokens : Tokens) where
   -- the rules at a level, where those one level deeper are known
@@ -35,6 +40,5 @@ module _ (tokens : Tokens) where
   }
   rules (suc n) = at_level (rules n)
 
--- Levels go from 0 to 256. What stands deeper is too deep.
 unfoldable pub read : Tokens → ℕ → Rules
-read tokens level = rules tokens (257 - level)
+read tokens level = rules tokens (levels_from level)

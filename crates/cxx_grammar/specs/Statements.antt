@@ -1,90 +1,25 @@
--- Statements ([stmt]), with the declarations and assignments that stand in them.
-use Rattle.std.specs.Prelude.{ℕ, zero, suc, ◌+◌, ◌-◌, Bool, true, false, ◌&&◌, ◌||◌, not, if◌then◌else◌, ◌==◌, List, [], ◌∷◌, length, Option, Some, None, is_none}
-use Rattle.cxx_base.specs.declared.operator.IntOp.{IntOp}
-use Rattle.cxx_base.specs.declared.operator.IntOp.TheVariants as int
+-- Statements ([stmt]) at a level.
+use Rattle.std.specs.Prelude.{ℕ, ◌+◌, not, if◌then◌else◌, Option, Some, None}
 use Rattle.cxx_tree.specs.declared.stmt.Stmt.{Stmt}
 use Rattle.cxx_tree.specs.declared.stmt.Stmt.TheVariants as stmt-of
-use Rattle.cxx_tree.specs.declared.stmt.BodyTree.{BodyTree}
-use Rattle.cxx_tree.specs.declared.stmt.BodyTree.TheVariants as body-of
-use Rattle.cxx_tree.specs.declared.stmt.BoundTree.{BoundTree}
-use Rattle.cxx_tree.specs.declared.stmt.InitTree.{InitTree}
-use Rattle.cxx_tree.specs.declared.stmt.InitTree.TheVariants as init-of
-use Rattle.cxx_tree.specs.declared.stmt.LocalTree.{LocalTree}
-use Rattle.cxx_tree.specs.declared.stmt.AssignTree.{AssignTree}
-use Rattle.cxx_tree.specs.declared.stmt.AssignTree.TheVariants as assign-of
-use Rattle.cxx_tree.specs.declared.stmt.StepOp.{StepOp}
-use Rattle.cxx_tree.specs.declared.stmt.StepOp.TheVariants as step-of
 use Rattle.cxx_tree.specs.declared.stmt.ForInit.{ForInit}
-use Rattle.cxx_tree.specs.declared.stmt.ForRange.{ForRange}
 use Rattle.cxx_tree.specs.declared.stmt.ForInit.TheVariants as for-init-of
+use Rattle.cxx_tree.specs.declared.stmt.ForRange.{ForRange}
 use Rattle.cxx_tree.specs.declared.stmt.ForStep.{ForStep}
 use Rattle.cxx_tree.specs.declared.stmt.ForStep.TheVariants as for-step-of
 use Rattle.cxx_tree.specs.declared.stmt.Returned.{Returned}
 use Rattle.cxx_tree.specs.declared.stmt.Returned.TheVariants as returned-of
-use Rattle.cxx_tree.specs.declared.decl.AliasTree.{AliasTree}
-use Rattle.cxx_tree.specs.declared.decl.AliasedTree.{AliasedTree}
-use Rattle.cxx_tree.specs.declared.decl.AliasedTree.TheVariants as aliased-of
-use Rattle.cxx_tree.specs.declared.decl.AssertTree.{AssertTree}
+use Rattle.cxx_tree.specs.declared.decl.Member.{Member}
 use Rattle.cxx_tokens.specs.declared.token.Tokens.{Tokens}
 use Rattle.cxx_tokens.specs.declared.mark.TheConstants as mark
 use Rattle.cxx_tokens.specs.declared.keyword.TheConstants as keyword
-use Rattle.cxx_reading.specs.Any.{given, any_punctuator}
-use Rattle.cxx_reading.specs.Reading.{End, Tree, No, Nothing, Rule, ◌>>=◌, ◌>>◌, ◌<|>◌, pure, too_deep, guard, present, optional, if_any, punctuator, word, identifier, text, sees_punctuator, sees_word, sees_identifier, left, node}
-use Rattle.cxx_grammar.specs.Sequences.{many}
-use Rattle.cxx_grammar.specs.Names.{name, vector_head}
-use Rattle.cxx_grammar.specs.Fundamentals.{fund}
-use Rattle.cxx_grammar.specs.Lists.{arg}
-use Rattle.cxx_grammar.specs.Rules.{Rules}
+use Rattle.cxx_reading.specs.Reading.{Rule, ◌>>=◌, ◌>>◌, ◌<|>◌, pure, guard, optional, punctuator, word, identifier, node}
+use Rattle.cxx_grammar.specs.declared.within.Within.{Within}
 use Rattle.cxx_grammar.specs.Read.{read}
-
--- The rules of statements at one level, each for what stands in a loop and what does not. `stmt` is a statement of a body;
--- `sub` is a statement within a statement, whose braces and parentheses are one level with it.
-pub record Statements : Type 0 where
-  pub stmt : Bool → Rule Stmt
-  pub sub : Bool → Rule Stmt
-
--- whether a rule reads
-abbrev pub reads : {A : Type 0} → End A → Bool
-reads (Tree a i) = true
-reads (No why) = false
-
--- `+=` `-=` `*=` `/=` `%=` `^=` `&=` `|=` `<<=` `>>=`
-abbrev pub compound_mark : ℕ → Option IntOp
-compound_mark m = if m == mark.PLUS_EQUAL then Some int.Add
-    else (if m == mark.MINUS_EQUAL then Some int.Sub
-    else (if m == mark.STAR_EQUAL then Some int.Mul
-    else (if m == mark.SLASH_EQUAL then Some int.Div
-    else (if m == mark.PERCENT_EQUAL then Some int.Rem
-    else (if m == mark.CARET_EQUAL then Some int.Xor
-    else (if m == mark.AMPERSAND_EQUAL then Some int.And
-    else (if m == mark.PIPE_EQUAL then Some int.Or
-    else (if m == mark.SHIFT_LEFT_EQUAL then Some int.Shl
-    else (if m == mark.SHIFT_RIGHT_EQUAL then Some int.Shr else None)))))))))
-
-abbrev pub step_before_mark : ℕ → Option StepOp
-step_before_mark m = if m == mark.INCREMENT then Some step-of.PreIncrement else (if m == mark.DECREMENT then Some step-of.PreDecrement else None)
-
-abbrev pub step_behind_mark : ℕ → Option StepOp
-step_behind_mark m = if m == mark.INCREMENT then Some step-of.PostIncrement else (if m == mark.DECREMENT then Some step-of.PostDecrement else None)
-
--- ---- declarators
-
-abbrev pub has_length : BoundTree → Bool
-has_length b = not (is_none b.length)
-
-abbrev pub have_lengths : List BoundTree → Bool
-have_lengths [] = true
-have_lengths (b ∷ more) = has_length b && have_lengths more
-
-abbrev pub is_braced_init : Option InitTree → Bool
-is_braced_init (Some (init-of.EqualBraced x)) = true
-is_braced_init (Some (init-of.Braced x)) = true
-is_braced_init _ = false
-
--- A bound without a length stands only first, and before a braced initializer.
-abbrev pub fit_bounds : List BoundTree → Option InitTree → Bool
-fit_bounds [] init = true
-fit_bounds (first ∷ more) init = have_lengths more && (has_length first || is_braced_init init)
+use Rattle.cxx_grammar.specs.Locals.{locally, elsewhere, local, assign, assert, alias}
+use Rattle.cxx_grammar.specs.Declarations.{body, block}
+use Rattle.cxx_grammar.specs.Nests.{Nests, of_block, looping}
+use Rattle.cxx_grammar.specs.Classes.{class, member}
 
 module _ (tokens : Tokens) where
   abbrev p : ℕ → Rule (Unit {0})
@@ -93,206 +28,35 @@ module _ (tokens : Tokens) where
   abbrev w : ℕ → Rule (Unit {0})
   w = word tokens
 
-  -- ---- what begins a declaration in a body
+  unfoldable pub empty_form : Rule Stmt
+  empty_form = node tokens (do p mark.SEMICOLON; pure (λ s. stmt-of.Empty s))
 
-  -- "*", "&" or "const"
-  abbrev pub points : ℕ → Bool
-  points i = (sees_punctuator tokens mark.STAR i || sees_punctuator tokens mark.AMPERSAND i) || sees_word tokens keyword.CONST i
+  -- "break" ";" and "continue" ";", in a loop alone
+  unfoldable pub break_form : Within → Rule Stmt
+  break_form within = node tokens (do guard within.in_loop; w keyword.BREAK; p mark.SEMICOLON; pure (λ s. stmt-of.Break s))
 
-  -- the token behind as many of these as stand there, but at most so many
-  unfoldable pub behind_points : ℕ → ℕ → ℕ
-  behind_points zero i = i
-  behind_points (suc n) i = if points i then behind_points n (i + 1) else i
+  unfoldable pub continue_form : Within → Rule Stmt
+  continue_form within = node tokens (do guard within.in_loop; w keyword.CONTINUE; p mark.SEMICOLON; pure (λ s. stmt-of.Continue s))
 
-  -- a name that an identifier follows, also behind one or more of "*", "&", "const"
-  abbrev pub declares : {A : Type 0} → End A → Bool
-  declares (Tree n j) = sees_identifier tokens (behind_points (left tokens j) j)
-  declares (No why) = false
+  unfoldable pub for_empty : Rule ForInit
+  for_empty = node tokens (do p mark.SEMICOLON; pure (λ s. for-init-of.Empty s))
 
-  -- a fundamental type that neither "(" nor "{" follows
-  abbrev pub stands_alone : {A : Type 0} → End A → Bool
-  stands_alone (Tree f j) = not (sees_punctuator tokens mark.LEFT_PAREN j || sees_punctuator tokens mark.LEFT_BRACE j)
-  stands_alone (No why) = false
-
-  -- A statement is a declaration of a local variable exactly where it begins with `constexpr`, `const`, `typename`, the type
-  -- of a vector, a fundamental type as above, or a name as above (compare [stmt.ambig]).
-  unfoldable pub begins_local : ℕ → Bool
-  begins_local i = sees_word tokens keyword.CONSTEXPR i || (sees_word tokens keyword.CONST i || (sees_word tokens keyword.TYPENAME i
-      || (reads (vector_head tokens i) || (stands_alone (fund tokens i) || declares (name tokens i)))))
-
-  -- A form that stands exactly where such a declaration begins, and one that stands exactly where none does. Which of them
-  -- stands is settled before they are read, so the other one is not asked, not even whether it is too deep.
-  abbrev pub locally : {A : Type 0} → Rule A → Rule A
-  locally q = λ i. if begins_local i then q i else No Nothing
-
-  abbrev pub elsewhere : {A : Type 0} → Rule A → Rule A
-  elsewhere q = λ i. if begins_local i then No Nothing else q i
-
-  -- ---- bodies
-
-  -- The statements of a body, each read by the rule. It is asked at least once, so that a body of the last level is too deep
-  -- also where the text ends behind its brace.
-  unfoldable pub more_statements : Rule Stmt → List Stmt → Rule (List Stmt)
-  more_statements q = many tokens q
-
-  unfoldable pub some_statements : Rule Stmt → Rule (List Stmt)
-  some_statements q = do
-    first ← q
-    more_statements q (first ∷ [])
-
-  -- stmt*
-  unfoldable pub statements : Rule Stmt → Rule (List Stmt)
-  statements q = if_any (some_statements q)
-
-  -- "{" stmt* "}"
-  abbrev pub braces : Rule Stmt → Rule BodyTree
-  braces q = node tokens (do
-    p mark.LEFT_BRACE
-    all ← statements q
-    p mark.RIGHT_BRACE
-    pure (λ s. body-of.Body s all))
-
-  -- ---- operators of assignments
-
-  -- OP=
-  unfoldable pub compound : Rule IntOp
-  compound = do m ← any_punctuator tokens; given (compound_mark m)
-
-  -- "++" | "--" before its operand
-  unfoldable pub before : Rule StepOp
-  before = do m ← any_punctuator tokens; given (step_before_mark m)
-
-  -- "++" | "--" behind its operand
-  unfoldable pub behind : Rule StepOp
-  behind = do m ← any_punctuator tokens; given (step_behind_mark m)
-
-  -- ---- forms at a level: `here` are the rules of expressions there, `deeper` those one level deeper
+  -- ---- statements at a level in which no statement stands
 
   module _ (level : ℕ) where
-    abbrev here : Rules
-    here = read tokens level
-
-    abbrev deeper : Rules
-    deeper = read tokens (level + 1)
-
-    -- bound : "[" expr? "]"
-    unfoldable pub bound : Rule BoundTree
-    bound = node tokens (do
-      p mark.LEFT_BRACKET
-      length ← optional deeper.expr
-      p mark.RIGHT_BRACKET
-      pure (λ s. record { span = s; length = length }))
-
-    -- bound*
-    unfoldable pub bounds : List BoundTree → Rule (List BoundTree)
-    bounds = many tokens bound
-
-    unfoldable pub init_equal : Rule InitTree
-    init_equal = do p mark.EQUAL; x ← here.expr; pure (init-of.Equal x)
-
-    unfoldable pub init_equal_braced : Rule InitTree
-    init_equal_braced = do p mark.EQUAL; x ← here.braced; pure (init-of.EqualBraced x)
-
-    unfoldable pub init_braced : Rule InitTree
-    init_braced = do x ← here.braced; pure (init-of.Braced x)
-
-    -- init : "=" expr | "=" braced | braced
-    unfoldable pub init : Rule InitTree
-    init = init_equal <|> init_equal_braced <|> init_braced
-
-    -- local : "constexpr"? type ID bound* init? ";"
-    unfoldable pub local : Rule LocalTree
-    local = node tokens (do
-      is_constexpr ← present (w keyword.CONSTEXPR)
-      of_type ← here.type_tree
-      n ← identifier tokens
-      all ← bounds []
-      value ← optional init
-      p mark.SEMICOLON
-      guard (fit_bounds all value)
-      pure (λ s. record { span = s; is_constexpr = is_constexpr; of_type = of_type; name = n; bounds = all; init = value }))
-
-    -- ---- assignments
-
-    -- unary "=" (expr | braced)
-    unfoldable pub assign_equal : Rule AssignTree
-    assign_equal = node tokens (do
-      place ← here.unary
-      p mark.EQUAL
-      x ← arg tokens here
-      pure (λ s. assign-of.Equal s place x))
-
-    -- unary OP= expr
-    unfoldable pub assign_compound : Rule AssignTree
-    assign_compound = node tokens (do
-      place ← here.unary
-      op ← compound
-      x ← here.expr
-      pure (λ s. assign-of.Compound s op place x))
-
-    -- ("++" | "--") unary
-    unfoldable pub step_before : Rule AssignTree
-    step_before = node tokens (do
-      op ← before
-      x ← deeper.unary
-      pure (λ s. assign-of.Step s op x))
-
-    -- unary ("++" | "--")
-    unfoldable pub step_behind : Rule AssignTree
-    step_behind = node tokens (do
-      x ← here.unary
-      op ← behind
-      pure (λ s. assign-of.Step s op x))
-
-    -- assign : unary "=" (expr | braced) | unary OP= expr | ("++" | "--") unary | unary ("++" | "--")
-    unfoldable pub assign : Rule AssignTree
-    assign = assign_equal <|> assign_compound <|> step_before <|> step_behind
-
-    -- ---- declarations that stand in bodies too
-
-    -- assert : "static_assert" "(" expr ("," STRING)? ")" ";", at the level of what stands in its parentheses
-    unfoldable pub assert : Rule AssertTree
-    assert = node tokens (do
-      w keyword.STATIC_ASSERT
-      p mark.LEFT_PAREN
-      condition ← here.expr
-      message ← optional (p mark.COMMA >> text tokens)
-      p mark.RIGHT_PAREN
-      p mark.SEMICOLON
-      pure (λ s. record { span = s; condition = condition; message = message }))
-
-    unfoldable pub aliased : Rule AliasedTree
-    aliased = (do t ← here.type_tree; pure (aliased-of.Type t)) <|> (do x ← here.splice; pure (aliased-of.Splice x))
-
-    -- alias : "using" ID "=" (type | splice) ";"
-    unfoldable pub alias : Rule AliasTree
-    alias = node tokens (do
-      w keyword.USING
-      n ← identifier tokens
-      p mark.EQUAL
-      x ← aliased
-      p mark.SEMICOLON
-      pure (λ s. record { span = s; name = n; of = x }))
-
-  -- ---- statements at a level, where `inner` reads those one level deeper
-
-  module _ (level : ℕ) (inner : Statements) where
-    unfoldable pub empty_form : Rule Stmt
-    empty_form = node tokens (do p mark.SEMICOLON; pure (λ s. stmt-of.Empty s))
-
     unfoldable pub alias_form : Rule Stmt
-    alias_form = do x ← alias level; pure (stmt-of.Alias x)
+    alias_form = do x ← alias tokens level; pure (stmt-of.Alias x)
 
     unfoldable pub local_form : Rule Stmt
-    local_form = locally (do x ← local level; pure (stmt-of.Local x))
+    local_form = locally tokens (do x ← local tokens level; pure (stmt-of.Local x))
 
     -- assign ";"
     unfoldable pub assign_form : Rule Stmt
-    assign_form = elsewhere (do x ← assign level; p mark.SEMICOLON; pure (stmt-of.Assign x))
+    assign_form = elsewhere tokens (do x ← assign tokens level; p mark.SEMICOLON; pure (stmt-of.Assign x))
 
     -- expr ";"
     unfoldable pub expr_form : Rule Stmt
-    expr_form = elsewhere (node tokens (do x ← (read tokens level).expr; p mark.SEMICOLON; pure (λ s. stmt-of.Expr s x)))
+    expr_form = elsewhere tokens (node tokens (do x ← (read tokens level).expr; p mark.SEMICOLON; pure (λ s. stmt-of.Expr s x)))
 
     -- "return" (expr | braced)? ";"
     unfoldable pub returned : Rule Returned
@@ -305,28 +69,47 @@ module _ (tokens : Tokens) where
       p mark.SEMICOLON
       pure (λ s. stmt-of.Return s x))
 
-    -- "break" ";" and "continue" ";", in a loop alone
-    unfoldable pub break_form : Bool → Rule Stmt
-    break_form in_loop = node tokens (do guard in_loop; w keyword.BREAK; p mark.SEMICOLON; pure (λ s. stmt-of.Break s))
+  -- ---- what stands in the parentheses of a statement, at their level
 
-    unfoldable pub continue_form : Bool → Rule Stmt
-    continue_form in_loop = node tokens (do guard in_loop; w keyword.CONTINUE; p mark.SEMICOLON; pure (λ s. stmt-of.Continue s))
+  module _ (level : ℕ) where
+    unfoldable pub assert_form : Rule Stmt
+    assert_form = do x ← assert tokens level; pure (stmt-of.Assert x)
 
-    -- What stands in the parentheses of a statement is at the level `within`: one deeper than a statement of a body, and that
-    -- of a statement within a statement, with which its parentheses are one level.
-    module _ (within : ℕ) (in_loop : Bool) where
-      unfoldable pub assert_form : Rule Stmt
-      assert_form = do x ← assert within; pure (stmt-of.Assert x)
+    unfoldable pub for_local : Rule ForInit
+    for_local = locally tokens (do x ← local tokens level; pure (for-init-of.Local x))
 
+    unfoldable pub for_assign : Rule ForInit
+    for_assign = elsewhere tokens (do x ← assign tokens level; p mark.SEMICOLON; pure (for-init-of.Assign x))
+
+    -- local | assign ";" | ";", where too a declaration stands exactly where one begins
+    unfoldable pub for_init : Rule ForInit
+    for_init = for_local <|> for_assign <|> for_empty
+
+    -- assign | expr
+    unfoldable pub for_step : Rule ForStep
+    for_step = (do x ← assign tokens level; pure (for-step-of.Assign x)) <|> (do x ← (read tokens level).expr; pure (for-step-of.Expr x))
+
+    -- type ID ":" expr, which stands nowhere else than where a declaration begins
+    unfoldable pub range : Rule ForRange
+    range = locally tokens (do
+      of_type ← (read tokens level).type_tree
+      n ← identifier tokens
+      p mark.COLON
+      over ← (read tokens level).expr
+      pure (record { of_type = of_type; name = n; over = over }))
+
+    -- ---- statements in which a statement stands, where `inner` are the rules one level deeper than the statement around
+
+    module _ (inner : Nests) (within : Within) where
       -- "if" "(" expr ")" stmt ("else" stmt)?
       unfoldable pub if_form : Rule Stmt
       if_form = node tokens (do
         w keyword.IF
         p mark.LEFT_PAREN
-        condition ← (read tokens within).expr
+        condition ← (read tokens level).expr
         p mark.RIGHT_PAREN
-        holds ← inner.sub in_loop
-        fails ← optional (w keyword.ELSE >> inner.sub in_loop)
+        holds ← inner.sub within
+        fails ← optional (w keyword.ELSE >> inner.sub within)
         pure (λ s. stmt-of.If s condition holds fails))
 
       -- "while" "(" expr ")" stmt
@@ -334,27 +117,10 @@ module _ (tokens : Tokens) where
       while_form = node tokens (do
         w keyword.WHILE
         p mark.LEFT_PAREN
-        condition ← (read tokens within).expr
+        condition ← (read tokens level).expr
         p mark.RIGHT_PAREN
-        turn ← inner.sub true
+        turn ← inner.sub (looping within)
         pure (λ s. stmt-of.While s condition turn))
-
-      unfoldable pub for_local : Rule ForInit
-      for_local = locally (do x ← local within; pure (for-init-of.Local x))
-
-      unfoldable pub for_assign : Rule ForInit
-      for_assign = elsewhere (do x ← assign within; p mark.SEMICOLON; pure (for-init-of.Assign x))
-
-      unfoldable pub for_empty : Rule ForInit
-      for_empty = node tokens (do p mark.SEMICOLON; pure (λ s. for-init-of.Empty s))
-
-      -- local | assign ";" | ";", where too a declaration stands exactly where one begins
-      unfoldable pub for_init : Rule ForInit
-      for_init = for_local <|> for_assign <|> for_empty
-
-      -- assign | expr
-      unfoldable pub for_step : Rule ForStep
-      for_step = (do x ← assign within; pure (for-step-of.Assign x)) <|> (do x ← (read tokens within).expr; pure (for-step-of.Expr x))
 
       -- "for" "(" (local | assign ";" | ";") expr? ";" (assign | expr)? ")" stmt
       unfoldable pub for_form : Rule Stmt
@@ -362,21 +128,12 @@ module _ (tokens : Tokens) where
         w keyword.FOR
         p mark.LEFT_PAREN
         first ← for_init
-        condition ← optional (read tokens within).expr
+        condition ← optional (read tokens level).expr
         p mark.SEMICOLON
         step ← optional for_step
         p mark.RIGHT_PAREN
-        turn ← inner.sub true
+        turn ← inner.sub (looping within)
         pure (λ s. stmt-of.For s (record { first = first; condition = condition; step = step }) turn))
-
-      -- type ID ":" expr, which stands nowhere else than where a declaration begins
-      unfoldable pub range : Rule ForRange
-      range = locally (do
-        of_type ← (read tokens within).type_tree
-        n ← identifier tokens
-        p mark.COLON
-        over ← (read tokens within).expr
-        pure (record { of_type = of_type; name = n; over = over }))
 
       -- "for" "(" type ID ":" expr ")" stmt
       unfoldable pub range_for_form : Rule Stmt
@@ -385,32 +142,50 @@ module _ (tokens : Tokens) where
         p mark.LEFT_PAREN
         r ← range
         p mark.RIGHT_PAREN
-        turn ← inner.sub true
+        turn ← inner.sub (looping within)
         pure (λ s. stmt-of.RangeFor s r turn))
 
-      -- stmt, but for its braces
-      unfoldable pub other_stmt : Rule Stmt
-      other_stmt = empty_form <|> assert_form <|> alias_form <|> local_form <|> assign_form <|> expr_form
-          <|> if_form <|> while_form <|> for_form <|> range_for_form
-          <|> return_form <|> break_form in_loop <|> continue_form in_loop
+  -- ---- statements with braces of their own, where `inside` reads what stands in them
 
-    -- A statement of a body. Its own braces are a level.
-    unfoldable pub stmt : Bool → Rule Stmt
-    stmt in_loop = (do x ← braces (inner.stmt in_loop); pure (stmt-of.Body x)) <|> other_stmt (level + 1) in_loop
+  unfoldable pub body_form : Rule Stmt → Rule Stmt
+  body_form inside = do x ← body tokens inside; pure (stmt-of.Body x)
 
-    -- A statement within a statement, which is a level by itself. Its own braces are that level.
-    unfoldable pub sub : Bool → Rule Stmt
-    sub in_loop = (do x ← braces (stmt in_loop); pure (stmt-of.Body x)) <|> other_stmt level in_loop
+  -- A class stands in the body of a function, and not in that of a block. That is asked behind the form, as each side rule is,
+  -- so that the form is too deep where a part of it is.
+  unfoldable pub class_form : ℕ → Rule Member → Within → Rule Stmt
+  class_form level inside within = do
+    x ← class tokens level inside
+    guard (not within.in_block)
+    pure (stmt-of.Class x)
 
-  -- the rules of statements at a level, of which so many are left with it
-  unfoldable pub statements_at : ℕ → ℕ → Statements
-  statements_at zero level = record { stmt = λ in_loop. too_deep; sub = λ in_loop. too_deep }
-  statements_at (suc n) level = record { stmt = stmt level (statements_at n (level + 1)); sub = sub level (statements_at n (level + 1)) }
+  -- A block stands there too, and not in the body of a block.
+  unfoldable pub block_form : Rule Stmt → Within → Rule Stmt
+  block_form inside within = do
+    x ← block tokens inside
+    guard (not within.in_block)
+    pure (stmt-of.Block x)
 
-  -- the same, of which level 256 is the last
-  unfoldable pub read_statements : ℕ → Statements
-  read_statements level = statements_at (257 - level) level
+  -- any of them at a level, where the statements and the members in its braces are read by these rules
+  unfoldable pub bracketed : ℕ → (Within → Rule Stmt) → Rule Member → Within → Rule Stmt
+  bracketed level statement inside within =
+      body_form (statement within) <|> class_form level inside within <|> block_form (statement of_block) within
 
-  -- body : "{" stmt* "}", of a function or a block, at a level
-  unfoldable pub body : ℕ → Rule BodyTree
-  body level = braces ((read_statements (level + 1)).stmt false)
+  -- ---- all statements
+
+  module _ (level : ℕ) (inner : Nests) where
+    -- Those without braces of their own. What stands in their parentheses is at the level `in_parens`.
+    unfoldable pub other_stmt : ℕ → Within → Rule Stmt
+    other_stmt in_parens within = empty_form <|> assert_form in_parens <|> alias_form level <|> local_form level <|> assign_form level
+        <|> expr_form level <|> if_form in_parens inner within <|> while_form in_parens inner within <|> for_form in_parens inner within
+        <|> range_for_form in_parens inner within <|> return_form level <|> break_form within <|> continue_form within
+
+    -- stmt : body | ";" | assert | alias | class | block | local | assign ";" | expr ";" | "if" .. | "while" .. | "for" .. | "return" ..
+    -- | "break" ";" | "continue" ";"
+    --
+    -- A statement of a body. Its own braces or parentheses are a level.
+    unfoldable pub stmt : Within → Rule Stmt
+    stmt within = bracketed level inner.stmt inner.member within <|> other_stmt (level + 1) within
+
+    -- A statement within a statement, which is a level by itself. Its own braces or parentheses are that level.
+    unfoldable pub sub : Within → Rule Stmt
+    sub within = bracketed level stmt (member tokens level inner) within <|> other_stmt level within

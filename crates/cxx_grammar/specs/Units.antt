@@ -7,7 +7,7 @@ use Rattle.cxx_tokens.specs.declared.mark.TheConstants as mark
 use Rattle.cxx_tokens.specs.declared.keyword.TheConstants as keyword
 use Rattle.cxx_reading.specs.Reading.{End, Tree, No, Why, Nothing, Rule, ◌>>=◌, ◌>>◌, ◌<|>◌, pure, punctuator, word, identifier, node}
 use Rattle.cxx_grammar.specs.Names.{parts}
-use Rattle.cxx_grammar.specs.Declarations.{declaration}
+use Rattle.cxx_grammar.specs.Nesting.{declaration}
 
 -- a unit, or the token at which it is refused and why; the number of tokens stands for the end of the text
 pub data Derived : Type 0 where
@@ -63,7 +63,7 @@ module _ (tokens : Tokens) where
 
   -- The items from a token on, one after the other up to the last token, behind those that were found. The first that is too
   -- deep, or where nothing begins, or that closes no head, decides; a head that is left open is refused at the end of the
-  -- text. Each item takes a token, so there are no more items than tokens.
+  -- text. Each item takes a token, so there are no more items than tokens, and the bound cuts nothing off.
   unfoldable pub derived : ℕ → ℕ → List Item → ℕ → Derived
   derived zero heads found i = at_end heads found i
   derived (suc n) heads found i = if nat_lt i end_of_text then step (derived n) heads found i (item i) else at_end heads found i

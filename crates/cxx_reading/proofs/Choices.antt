@@ -1,5 +1,5 @@
 -- Which of two forms is the longer one.
-use Rattle.cxx_reading.specs.declared.fault.Fault.{Fault}
+use Rattle.cxx_reading.specs.declared.fault.ExprFault.{ExprFault}
 use Rattle.std.proofs.Common.{◌≡◌, ℕ, ◌+◌, ◌<◌, ◌≤◌, Bool, true, false, if◌then◌else◌, nat_lt, Result, ◌⊎◌, inl, inr, refl, ◌∙◌, sym, arith}
 use Rattle.std.proofs.lemmas.Bool.{lt-ltb, le-ltb, ltb-true, ltb-false}
 use Rattle.cxx_reading.proofs.Starts.{longer_nothing, longer_deep}
@@ -37,7 +37,7 @@ goes_before (No Nothing) t k h = refl
 goes_before (No TooDeep) t k h = refl
 
 -- What `longer` gives, for `using` on a function that calls it.
-pub choice : {A : Type 0} {first second result : Result (A × ℕ) Fault} (x y : End A) → Chooses first second result → Gives x first → Gives y second → Gives (longer x y) result
+pub choice : {A : Type 0} {first second result : Result (A × ℕ) ExprFault} (x y : End A) → Chooses first second result → Gives x first → Gives y second → Gives (longer x y) result
 choice x y c g h = c.gives x y g h
 
 -- ---- three forms may be taken together in either way

@@ -7,3 +7,4 @@ pub mod Always
 pub mod Choices
 pub mod Needs
 pub mod Bounds
+pub mod Answers

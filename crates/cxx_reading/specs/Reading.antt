@@ -9,8 +9,8 @@ use Rattle.cxx_tokens.specs.declared.token.TokenKind.TheVariants as token_kind
 use Rattle.cxx_tokens.specs.declared.token.Tokens.{Tokens}
 use Rattle.cxx_tree.specs.declared.identifier.Identifier.{Identifier}
 use Rattle.cxx_tree.specs.declared.literal.IntegerLiteral.{IntegerLiteral}
-use Rattle.cxx_reading.specs.declared.fault.Fault.{Fault}
-use Rattle.cxx_reading.specs.declared.fault.Fault.TheVariants.{Syntax, Deep, Memory}
+use Rattle.cxx_reading.specs.declared.fault.ExprFault.{ExprFault}
+use Rattle.cxx_reading.specs.declared.fault.ExprFault.TheVariants.{S1, S2, Memory}
 use Rattle.cxx_reading.specs.declared.seen.Seen.{Seen}
 use Rattle.cxx_reading.specs.declared.seen.Seen.TheVariants as seen_kind
 
@@ -246,26 +246,26 @@ module _ (tokens : Tokens) where
 -- ---- what the functions that parse ensure
 
 -- the fault by which a function says why there is no tree
-abbrev pub why : Fault → Why
-why Syntax = Nothing
-why Deep = TooDeep
+abbrev pub why : ExprFault → Why
+why S1 = Nothing
+why S2 = TooDeep
 why Memory = Nothing
 
 -- the end that the rule gives, unless memory ran out
-abbrev pub Gives : {A : Type 0} → End A → Result (A × ℕ) Fault → Type 0
+abbrev pub Gives : {A : Type 0} → End A → Result (A × ℕ) ExprFault → Type 0
 Gives end (Ok found) = end ≡ Tree found.0 found.1
 Gives end (Err fault) = fault ≢ Memory → end ≡ No (why fault)
 
 -- the same of a single token whose tree says nothing; memory does not run out
-abbrev pub Steps : End (Unit {0}) → Result ℕ Fault → Type 0
+abbrev pub Steps : End (Unit {0}) → Result ℕ ExprFault → Type 0
 Steps end (Ok j) = end ≡ Tree tt j
-Steps end (Err fault) = (end ≡ No Nothing) × (fault ≡ Syntax)
+Steps end (Err fault) = (end ≡ No Nothing) × (fault ≡ S1)
 
 -- of two answers the longer: whichever ends they give, the result gives the longer of these
-pub record Chooses {A : Type 0} (first second result : Result (A × ℕ) Fault) : Type 0 where
+pub record Chooses {A : Type 0} (first second result : Result (A × ℕ) ExprFault) : Type 0 where
   pub gives : (x y : End A) → Gives x first → Gives y second → Gives (longer x y) result
 
 -- whether memory ran out
-abbrev pub is_memory : {A : Type 0} → Result A Fault → Bool
+abbrev pub is_memory : {A : Type 0} → Result A ExprFault → Bool
 is_memory (Err Memory) = true
 is_memory _ = false

@@ -6,35 +6,35 @@ use thiserror::Error;
 
 /// Why a rule gives no tree at a token.
 #[derive(Clone, Copy, Debug, PartialEq, Eq, Error)]
-pub enum Fault {
+pub enum ExprFault {
     /// Nothing of this rule begins there.
     #[error("nothing begins there")]
-    Syntax,
+    S1,
     /// The rule is too deep there.
     #[error("the nesting is too deep")]
-    Deep,
+    S2,
     #[error("no memory was found")]
     Memory,
 }
 
-impl From<AllocError> for Fault {
+impl From<AllocError> for ExprFault {
     ghost use Rattle.std.specs.Prelude.{◌≡◌};
-    ghost use Rattle.cxx_reading.specs.declared.fault.Fault.TheVariants.{Memory};
+    ghost use Rattle.cxx_reading.specs.declared.fault.ExprFault.TheVariants.{Memory};
 
     ghost from_gives = { λ _ fault. fault ≡ Memory };
 
-    fn from(_refused: AllocError) -> Fault {
-        Fault::Memory
+    fn from(_refused: AllocError) -> ExprFault {
+        ExprFault::Memory
     }
 }
 
-impl From<Memory> for Fault {
+impl From<Memory> for ExprFault {
     ghost use Rattle.std.specs.Prelude.{◌≡◌};
-    ghost use Rattle.cxx_reading.specs.declared.fault.Fault.TheVariants.{Memory};
+    ghost use Rattle.cxx_reading.specs.declared.fault.ExprFault.TheVariants.{Memory};
 
     ghost from_gives = { λ _ fault. fault ≡ Memory };
 
-    fn from(_refused: Memory) -> Fault {
-        Fault::Memory
+    fn from(_refused: Memory) -> ExprFault {
+        ExprFault::Memory
     }
 }

@@ -5,7 +5,7 @@ ghost use Rattle.std.specs.Prelude.{◌≡◌, IfErr};
 ghost use Rattle.cxx_reading.specs.Reading as spec;
 ghost use Rattle.cxx_reading.specs.Reading.{Tree, Gives, Steps};
 
-use crate::fault::Fault;
+use crate::fault::ExprFault;
 use cxx_base::{Bytes, Span};
 use cxx_tokens::{TokenKind, Tokens};
 use cxx_tree::{Identifier, IntegerLiteral};
@@ -30,7 +30,7 @@ pub fn span(tokens: &Tokens, first: u32, end: u32) -> Span
 }
 
 /// Takes this punctuator.
-pub fn expect(tokens: &Tokens, mark: u32, at: u32) -> Result<u32, Fault>
+pub fn expect(tokens: &Tokens, mark: u32, at: u32) -> Result<u32, ExprFault>
     ensures { Steps (spec.punctuator tokens.now mark at) result }
 {
     match tokens.list.get(at as usize) {
@@ -39,17 +39,17 @@ pub fn expect(tokens: &Tokens, mark: u32, at: u32) -> Result<u32, Fault>
                 if n == mark {
                     Ok(at + 1)
                 } else {
-                    Err(Fault::Syntax)
+                    Err(ExprFault::S1)
                 }
             }
-            _ => Err(Fault::Syntax),
+            _ => Err(ExprFault::S1),
         },
-        None => Err(Fault::Syntax),
+        None => Err(ExprFault::S1),
     }
 }
 
 /// Takes this word.
-pub fn expect_word(tokens: &Tokens, word: u32, at: u32) -> Result<u32, Fault>
+pub fn expect_word(tokens: &Tokens, word: u32, at: u32) -> Result<u32, ExprFault>
     ensures { Steps (spec.word tokens.now word at) result }
 {
     match tokens.list.get(at as usize) {
@@ -58,12 +58,12 @@ pub fn expect_word(tokens: &Tokens, word: u32, at: u32) -> Result<u32, Fault>
                 if n == word {
                     Ok(at + 1)
                 } else {
-                    Err(Fault::Syntax)
+                    Err(ExprFault::S1)
                 }
             }
-            _ => Err(Fault::Syntax),
+            _ => Err(ExprFault::S1),
         },
-        None => Err(Fault::Syntax),
+        None => Err(ExprFault::S1),
     }
 }
 
@@ -88,9 +88,9 @@ pub fn eat_word(tokens: &Tokens, word: u32, at: u32) -> (bool, u32)
 }
 
 /// Takes an identifier ([lex.name]).
-pub fn identifier(tokens: &Tokens, at: u32) -> Result<(Identifier, u32), Fault>
+pub fn identifier(tokens: &Tokens, at: u32) -> Result<(Identifier, u32), ExprFault>
     ensures gives { Gives (spec.identifier tokens.now at) result }
-    ensures sure { IfErr result (λ fault. fault ≡ Fault.Syntax) }
+    ensures sure { IfErr result (λ fault. fault ≡ ExprFault.S1) }
 {
     match tokens.list.get(at as usize) {
         Some(token) => match token.kind {
@@ -99,16 +99,16 @@ pub fn identifier(tokens: &Tokens, at: u32) -> Result<(Identifier, u32), Fault>
                 let span = span(tokens, at, end);
                 Ok((Identifier { span, name }, end))
             }
-            _ => Err(Fault::Syntax),
+            _ => Err(ExprFault::S1),
         },
-        None => Err(Fault::Syntax),
+        None => Err(ExprFault::S1),
     }
 }
 
 /// Takes an integer literal ([lex.icon]).
-pub fn integer(tokens: &Tokens, at: u32) -> Result<(IntegerLiteral, u32), Fault>
+pub fn integer(tokens: &Tokens, at: u32) -> Result<(IntegerLiteral, u32), ExprFault>
     ensures gives { Gives (spec.integer tokens.now at) result }
-    ensures sure { IfErr result (λ fault. fault ≡ Fault.Syntax) }
+    ensures sure { IfErr result (λ fault. fault ≡ ExprFault.S1) }
 {
     match tokens.list.get(at as usize) {
         Some(token) => match token.kind {
@@ -126,39 +126,39 @@ pub fn integer(tokens: &Tokens, at: u32) -> Result<(IntegerLiteral, u32), Fault>
                 };
                 Ok((literal, at + 1))
             }
-            _ => Err(Fault::Syntax),
+            _ => Err(ExprFault::S1),
         },
-        None => Err(Fault::Syntax),
+        None => Err(ExprFault::S1),
     }
 }
 
 /// Takes a character literal ([lex.ccon]), by its byte.
-pub fn character(tokens: &Tokens, at: u32) -> Result<(u8, u32), Fault>
+pub fn character(tokens: &Tokens, at: u32) -> Result<(u8, u32), ExprFault>
     ensures gives { Gives (spec.character tokens.now at) result }
-    ensures sure { IfErr result (λ fault. fault ≡ Fault.Syntax) }
+    ensures sure { IfErr result (λ fault. fault ≡ ExprFault.S1) }
 {
     match tokens.list.get(at as usize) {
         Some(token) => match token.kind {
             TokenKind::Character(byte) => Ok((byte, at + 1)),
-            _ => Err(Fault::Syntax),
+            _ => Err(ExprFault::S1),
         },
-        None => Err(Fault::Syntax),
+        None => Err(ExprFault::S1),
     }
 }
 
 /// Takes a string literal ([lex.string]), by a copy of its bytes.
-pub fn text(alloc: Global, tokens: &Tokens, at: u32) -> Result<(Bytes, u32), Fault>
+pub fn text(alloc: Global, tokens: &Tokens, at: u32) -> Result<(Bytes, u32), ExprFault>
     ensures { Gives (spec.text tokens.now at) result }
 {
     match tokens.list.get(at as usize) {
         Some(token) => match &token.kind {
             TokenKind::Text(bytes) => {
                 let mut copy = Bytes::new(alloc);
-                copy.extend(bytes.as_slice())?;
+                copy.extend(bytes.get().as_slice())?;
                 Ok((copy, at + 1))
             }
-            _ => Err(Fault::Syntax),
+            _ => Err(ExprFault::S1),
         },
-        None => Err(Fault::Syntax),
+        None => Err(ExprFault::S1),
     }
 }

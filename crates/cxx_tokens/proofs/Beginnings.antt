@@ -9,7 +9,7 @@ use Rattle.cxx_tokens.specs.Characters.{Characters, begins_identifier, double_qu
 use Rattle.cxx_tokens.specs.Lex.{character_token, integer_token, punctuator_token, string_token, token_at, word_len, word_token}
 use Rattle.cxx_tokens.specs.Literals.{character_at, integer_at}
 use Rattle.cxx_tokens.specs.Punctuators.{punctuator_at}
-use Rattle.cxx_tokens.specs.declared.fault.LexFault.TheVariants.{L2}
+use Rattle.cxx_tokens.specs.Faults.{L2}
 
 module _ (place : Place) (names : List Text) (text : Characters) where
   pub at_end : text ≡ [] → token_at place names text ≡ Err (L2 place)

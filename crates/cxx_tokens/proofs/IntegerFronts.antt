@@ -1,5 +1,5 @@
--- The integer at the front of a text is whole, and no longer front is one where nothing of a word follows.
-use Rattle.std.proofs.Common.{◌≡◌, ℕ, zero, suc, ◌+◌, ◌<◌, ◌≤◌, Bool, true, false, ◌&&◌, ◌||◌, cond, eqb, [], ◌∷◌, length, take, drop, codes, refl, sym, ap, ◌∙◌, arith, true≢false}
+-- The integer at the front of a text is whole, and no longer front is one.
+use Rattle.std.proofs.Common.{◌≡◌, ℕ, zero, suc, ◌+◌, ◌<◌, ◌≤◌, Bool, true, false, ◌&&◌, ◌||◌, cond, eqb, [], ◌∷◌, length, take, drop, codes, refl, sym, ap, subst, ◌∙◌, arith, true≢false}
 use Rattle.std.proofs.lemmas.Bool.{and_parts, eqb-true}
 use Rattle.std.proofs.lemmas.Bool.Decides.{nat_tests}
 use Rattle.std.proofs.lemmas.List.{length-take-le}
@@ -10,7 +10,7 @@ use Rattle.cxx_tokens.specs.Literals.{base_of, digits_len, has_prefix, integer_a
 use Rattle.cxx_tokens.specs.Munch.{is_integer, is_number}
 use Rattle.cxx_tokens.specs.declared.integer.Base.{Base}
 use Rattle.cxx_tokens.specs.declared.integer.Base.TheVariants.{Binary, Octal, Decimal, Hexadecimal}
-use Rattle.cxx_tokens.proofs.NumberFronts.{len_alone, no_digits_len, number_len, number_no_longer, number_whole, number_within}
+use Rattle.cxx_tokens.proofs.NumberFronts.{len_alone, no_digits_len, no_number_at, number_len, number_no_longer, number_whole, number_within}
 
 digits_within : (base : ℕ) (text : Characters) → digits_len base text ≤ length text
 digits_within base [] = omega arith
@@ -45,9 +45,9 @@ pub record IsWhole (text : Characters) (n : ℕ) : Type 0 where
   pub longer : (m : ℕ) → n < m → m ≤ length text → is_integer (take m text) ≡ false
 
 prefixed : (base : ℕ) → base ≤ 16 → (c d : ℕ) (text : Characters) (n : ℕ) → ((front : Characters) → is_integer (c ∷ d ∷ front) ≡ is_number base front)
-    → first_is (is_digit_in base) text ≡ true → n ≡ 2 + number_len base text → first_is continues_identifier (drop n (c ∷ d ∷ text)) ≡ false
+    → first_is (is_digit_in base) text ≡ true → n ≡ 2 + number_len base text
     → IsWhole (c ∷ d ∷ text) n
-prefixed base small c d text n is digit long stops =
+prefixed base small c d text n is digit long =
     let few = number_within base text (digits_within base text) in
     record {
       within = omega (arith, few, two);
@@ -58,18 +58,15 @@ prefixed base small c d text n is digit long stops =
     two : n ≡ suc (suc (number_len base text))
     two = long ∙ omega arith
 
-    stop : first_is continues_identifier (drop (number_len base text) text) ≡ false
-    stop = ap (λ n. first_is continues_identifier (drop n (c ∷ d ∷ text))) (sym two) ∙ stops
-
     longer : (m : ℕ) → n < m → m ≤ length (c ∷ d ∷ text) → is_integer (take m (c ∷ d ∷ text)) ≡ false
     longer zero less within = absurd (omega (arith, less))
     longer (suc zero) less within = absurd (omega (arith, less, two))
     longer (suc (suc m)) less within =
-        is (take m text) ∙ number_no_longer base small text m stop (omega (arith, less, two)) (omega (arith, within))
+        is (take m text) ∙ number_no_longer base small text m (omega (arith, less, two)) (omega (arith, within))
 
 plain : (base : ℕ) → base ≤ 16 → (c : ℕ) (text : Characters) (n : ℕ) → ((k : ℕ) → is_integer (c ∷ take k text) ≡ is_number base (c ∷ take k text))
-    → is_digit_in base c ≡ true → n ≡ number_len base (c ∷ text) → first_is continues_identifier (drop n (c ∷ text)) ≡ false → IsWhole (c ∷ text) n
-plain base small c text n is digit long stops =
+    → is_digit_in base c ≡ true → n ≡ number_len base (c ∷ text) → IsWhole (c ∷ text) n
+plain base small c text n is digit long =
     let few = number_within base (c ∷ text) (digits_within base (c ∷ text)) in
     record {
       within = omega (arith, few, long);
@@ -81,37 +78,32 @@ plain base small c text n is digit long stops =
     some zero h = absurd (true≢false (sym h))
     some (suc k) h = is k ∙ h
 
-    stop : first_is continues_identifier (drop (number_len base (c ∷ text)) (c ∷ text)) ≡ false
-    stop = ap (λ n. first_is continues_identifier (drop n (c ∷ text))) (sym long) ∙ stops
-
     longer : (m : ℕ) → n < m → m ≤ length (c ∷ text) → is_integer (take m (c ∷ text)) ≡ false
     longer zero less within = absurd (omega (arith, less))
-    longer (suc m) less within = is m ∙ number_no_longer base small (c ∷ text) (suc m) stop (omega (arith, less, long)) within
+    longer (suc m) less within = is m ∙ number_no_longer base small (c ∷ text) (suc m) (omega (arith, less, long)) within
 
 -- ---- by the prefix
 
-hexadecimal_whole : (c : ℕ) (rest : Characters) (n : ℕ) → has_prefix (codes "0x") 16 (c ∷ rest) ≡ true → n ≡ len_by (c ∷ rest) Hexadecimal
-    → first_is continues_identifier (drop n (c ∷ rest)) ≡ false → IsWhole (c ∷ rest) n
-hexadecimal_whole c [] n h long stops =
+hexadecimal_whole : (c : ℕ) (rest : Characters) (n : ℕ) → has_prefix (codes "0x") 16 (c ∷ rest) ≡ true → n ≡ len_by (c ∷ rest) Hexadecimal → IsWhole (c ∷ rest) n
+hexadecimal_whole c [] n h long =
     let letters = and_parts (begins_with (codes "0x") (c ∷ [])) _ h in
     absurd (true≢false (sym ((and_parts (eqb c 48) false letters.0).1)))
-hexadecimal_whole c (d ∷ text) n h long stops =
+hexadecimal_whole c (d ∷ text) n h long =
     let letters = and_parts (begins_with (codes "0x") (c ∷ d ∷ text)) (first_is (is_digit_in 16) text) h in
     let zero_first = and_parts (eqb c 48) (eqb d 120 && true) letters.0 in
     let x = and_parts (eqb d 120) true zero_first.1 in
-    prefixed 16 (omega arith) c d text n (λ front. rw (zero_first.0, x.0) refl) letters.1 long stops
+    prefixed 16 (omega arith) c d text n (λ front. rw (zero_first.0, x.0) refl) letters.1 long
 
-binary_whole : (c : ℕ) (rest : Characters) (n : ℕ) → has_prefix (codes "0b") 2 (c ∷ rest) ≡ true → n ≡ len_by (c ∷ rest) Binary
-    → first_is continues_identifier (drop n (c ∷ rest)) ≡ false → IsWhole (c ∷ rest) n
-binary_whole c [] n h long stops =
+binary_whole : (c : ℕ) (rest : Characters) (n : ℕ) → has_prefix (codes "0b") 2 (c ∷ rest) ≡ true → n ≡ len_by (c ∷ rest) Binary → IsWhole (c ∷ rest) n
+binary_whole c [] n h long =
     let letters = and_parts (begins_with (codes "0b") (c ∷ [])) _ h in
     absurd (true≢false (sym ((and_parts (eqb c 48) false letters.0).1)))
-binary_whole c (d ∷ text) n h long stops =
+binary_whole c (d ∷ text) n h long =
     let letters = and_parts (begins_with (codes "0b") (c ∷ d ∷ text)) (first_is (is_digit_in 2) text) h in
     let zero_first = and_parts (eqb c 48) (eqb d 98 && true) letters.0 in
     let b = and_parts (eqb d 98) true zero_first.1 in
     let x : eqb d 120 ≡ false = ap (λ d. eqb d 120) (eqb-true d 98 b.0) in
-    prefixed 2 (omega arith) c d text n (λ front. rw (zero_first.0, x, b.0) refl) letters.1 long stops
+    prefixed 2 (omega arith) c d text n (λ front. rw (zero_first.0, x, b.0) refl) letters.1 long
 
 -- a letter of a prefix
 abbrev is_prefix_letter : ℕ → Bool
@@ -131,39 +123,56 @@ first_of_take p zero text h = refl
 first_of_take p (suc k) [] h = refl
 first_of_take p (suc k) (c ∷ text) h = h
 
--- a letter of a prefix with no digit behind it would follow the number
-no_letter : (c : ℕ) (rest : Characters) → is_digit_in 8 c ≡ true → first_is continues_identifier (drop (number_len 8 (c ∷ rest)) (c ∷ rest)) ≡ false
-    → first_is is_prefix_letter rest ≡ false
-no_letter c [] digit stops = refl
-no_letter c (d ∷ text) digit stops = by (eqb d 120) refl (eqb d 98) refl
+-- A letter of a prefix with no digit behind it is none of the number, which is a zero then: no other front is an integer.
+zero_alone : (c : ℕ) (rest : Characters) → eqb c 48 ≡ true → first_is is_prefix_letter rest ≡ true → has_prefix (codes "0x") 16 (c ∷ rest) ≡ false
+    → has_prefix (codes "0b") 2 (c ∷ rest) ≡ false → IsWhole (c ∷ rest) (number_len 8 (c ∷ rest))
+zero_alone c [] is_zero letter x b = absurd (true≢false (sym letter))
+zero_alone c (d ∷ text) is_zero letter x b = by (eqb d 120) refl (eqb d 98) refl letter
   where
-    no : (e : ℕ) → d ≡ e → is_digit_in 8 e ≡ false → has_prefix (codes "'") 8 (e ∷ text) ≡ false → (suffix_of (e ∷ text)).length ≡ 0 → continues_identifier e ≡ true
-        → true ≡ false
-    no e same other quote none continuing =
-        let long : number_len 8 (c ∷ e ∷ text) ≡ 1 = len_alone 8 c (e ∷ text) digit quote ∙ ap suc (no_digits_len 8 e text other ∙ none) in
-        sym continuing ∙ sym (ap (λ n. first_is continues_identifier (drop n (c ∷ e ∷ text))) long)
-        ∙ sym (ap (λ e. first_is continues_identifier (drop (number_len 8 (c ∷ e ∷ text)) (c ∷ e ∷ text))) same) ∙ stops
+    one : (e : ℕ) → d ≡ e → is_digit_in 8 e ≡ false → has_prefix (codes "'") 8 (e ∷ text) ≡ false → (suffix_of (e ∷ text)).length ≡ 0
+        → number_len 8 (c ∷ d ∷ text) ≡ 1
+    one e same other quote none =
+        let digit : is_digit_in 8 c ≡ true = ap (is_digit_in 8) (eqb-true c 48 is_zero) in
+        ap (λ e. number_len 8 (c ∷ e ∷ text)) same ∙ len_alone 8 c (e ∷ text) digit quote ∙ ap suc (no_digits_len 8 e text other ∙ none)
 
-    by : (a : Bool) → eqb d 120 ≡ a → (b : Bool) → eqb d 98 ≡ b → (a || b) ≡ false
-    by true f b g = absurd (true≢false (no 120 (eqb-true d 120 f) refl refl refl (is_xid_continue-ascii 120 (omega arith))))
-    by false f true g = absurd (true≢false (no 98 (eqb-true d 98 g) refl refl refl (is_xid_continue-ascii 98 (omega arith))))
-    by false f false g = refl
+    alone : number_len 8 (c ∷ d ∷ text) ≡ 1 → ((k : ℕ) → is_integer (c ∷ d ∷ take k text) ≡ false) → IsWhole (c ∷ d ∷ text) (number_len 8 (c ∷ d ∷ text))
+    alone long none =
+        record {
+          within = omega (arith, long);
+          whole = ap (λ n. is_integer (take n (c ∷ d ∷ text))) long ∙ rw is_zero (ap (is_digit_in 8) (eqb-true c 48 is_zero));
+          longer = longer;
+        }
+      where
+        longer : (m : ℕ) → number_len 8 (c ∷ d ∷ text) < m → m ≤ length (c ∷ d ∷ text) → is_integer (take m (c ∷ d ∷ text)) ≡ false
+        longer zero less within = absurd (omega (arith, less))
+        longer (suc zero) less within = absurd (omega (arith, less, long))
+        longer (suc (suc k)) less within = none k
 
-pub integer_whole : (c : ℕ) (rest : Characters) → is_ascii_digit c ≡ true
-    → first_is continues_identifier (drop (integer_at (c ∷ rest)).length (c ∷ rest)) ≡ false → IsWhole (c ∷ rest) (integer_at (c ∷ rest)).length
-integer_whole c rest digit stops =
-    by (has_prefix (codes "0x") 16 (c ∷ rest)) refl (has_prefix (codes "0b") 2 (c ∷ rest)) refl (eqb c 48) refl
+    by : (a : Bool) → eqb d 120 ≡ a → (e : Bool) → eqb d 98 ≡ e → (a || e) ≡ true → IsWhole (c ∷ d ∷ text) (number_len 8 (c ∷ d ∷ text))
+    by true f e g h =
+        let none : first_is (is_digit_in 16) text ≡ false = sym (rw (is_zero, f) refl) ∙ x in
+        alone (one 120 (eqb-true d 120 f) refl refl refl) (λ k. rw (is_zero, f) (no_number_at 16 text k none))
+    by false f true g h =
+        let none : first_is (is_digit_in 2) text ≡ false = sym (rw (is_zero, g) refl) ∙ b in
+        alone (one 98 (eqb-true d 98 g) refl refl refl) (λ k. rw (is_zero, f, g) (no_number_at 2 text k none))
+    by false f false g h = absurd (true≢false (sym h))
+
+pub integer_whole : (c : ℕ) (rest : Characters) → is_ascii_digit c ≡ true → IsWhole (c ∷ rest) (integer_at (c ∷ rest)).length
+integer_whole c rest digit =
+    by (has_prefix (codes "0x") 16 (c ∷ rest)) refl (has_prefix (codes "0b") 2 (c ∷ rest)) refl (eqb c 48) refl (first_is is_prefix_letter rest) refl
   where
     by : (x : Bool) → has_prefix (codes "0x") 16 (c ∷ rest) ≡ x → (b : Bool) → has_prefix (codes "0b") 2 (c ∷ rest) ≡ b → (z : Bool) → eqb c 48 ≡ z
-        → IsWhole (c ∷ rest) (integer_at (c ∷ rest)).length
-    by true e b f z g = hexadecimal_whole c rest (integer_at (c ∷ rest)).length e (len_is (c ∷ rest) Hexadecimal (rw e refl)) stops
-    by false e true f z g = binary_whole c rest (integer_at (c ∷ rest)).length f (len_is (c ∷ rest) Binary (rw (e, f) refl)) stops
-    by false e false f true g =
+        → (l : Bool) → first_is is_prefix_letter rest ≡ l → IsWhole (c ∷ rest) (integer_at (c ∷ rest)).length
+    by true e b f z g l letter = hexadecimal_whole c rest (integer_at (c ∷ rest)).length e (len_is (c ∷ rest) Hexadecimal (rw e refl))
+    by false e true f z g l letter = binary_whole c rest (integer_at (c ∷ rest)).length f (len_is (c ∷ rest) Binary (rw (e, f) refl))
+    by false e false f true g true letter =
+        let long : (integer_at (c ∷ rest)).length ≡ number_len 8 (c ∷ rest) = len_is (c ∷ rest) Octal (rw (e, f, g) refl) ∙ omega arith in
+        subst (IsWhole (c ∷ rest)) (sym long) (zero_alone c rest g letter e f)
+    by false e false f true g false letter =
         let long : (integer_at (c ∷ rest)).length ≡ number_len 8 (c ∷ rest) = len_is (c ∷ rest) Octal (rw (e, f, g) refl) ∙ omega arith in
         let octal : is_digit_in 8 c ≡ true = ap (is_digit_in 8) (eqb-true c 48 g) in
-        let letter = no_letter c rest octal (ap (λ n. first_is continues_identifier (drop n (c ∷ rest))) (sym long) ∙ stops) in
-        plain 8 (omega arith) c rest (integer_at (c ∷ rest)).length (λ k. octal_is c (take k rest) g (first_of_take is_prefix_letter k rest letter)) octal long stops
-    by false e false f false g =
+        plain 8 (omega arith) c rest (integer_at (c ∷ rest)).length (λ k. octal_is c (take k rest) g (first_of_take is_prefix_letter k rest letter)) octal long
+    by false e false f false g l letter =
         let long : (integer_at (c ∷ rest)).length ≡ number_len 10 (c ∷ rest) = len_is (c ∷ rest) Decimal (rw (e, f, g) refl) ∙ omega arith in
         let decimal : is_digit_in 10 c ≡ true = grind (arith, nat_tests) in
-        plain 10 (omega arith) c rest (integer_at (c ∷ rest)).length (λ k. rw g refl) decimal long stops
+        plain 10 (omega arith) c rest (integer_at (c ∷ rest)).length (λ k. rw g refl) decimal long

@@ -1,13 +1,18 @@
 -- Integer literals.
-use Rattle.std.proofs.Common.{◌≡◌, ℕ, zero, suc, eqb, subst, ◌+◌, ◌^◌, ◌<◌, ◌≤◌, min, length, arith, Bool, true, false, [], ◌∷◌, take, drop, refl, codes, true≢false, sym, ap, ◌∙◌}
+use Rattle.std.proofs.Common.{◌≡◌, ◌==◌, ℕ, zero, suc, eqb, subst, ◌+◌, ◌^◌, ◌<◌, ◌≤◌, min, length, arith, Bool, true, false, [], ◌∷◌, take, drop, refl, codes, true≢false, sym, ap, ◌∙◌}
 use Rattle.std.proofs.lemmas.List.{length-take-le}
 use Rattle.std.proofs.lemmas.Bool.Decides.{Decides-eqb, nat_tests}
 use Rattle.std.specs.Char.{is_ascii_digit}
-use Rattle.cxx_tokens.specs.Characters.{Characters, is_digit_in, value_in}
-use Rattle.cxx_tokens.specs.Literals.{Integer, Suffix, base_of, digits_len, has_prefix, integer_at, integer_by, is_decimal, prefix_len_of, radix, suffix_of}
+use Rattle.cxx_tokens.specs.Characters.{Characters, first_is, is_digit_in, value_in}
+use Rattle.cxx_tokens.specs.Literals.{Integer, Suffix, base_of, digits_len, has_prefix, integer_at, integer_by, is_decimal, prefix_len_of, radix, suffix_of, zero_digit}
 use Rattle.cxx_tokens.specs.Cuts.{capped}
 use Rattle.cxx_tokens.specs.declared.integer.Base.{Base}
 use Rattle.cxx_tokens.specs.declared.integer.Base.TheVariants.{Binary, Octal, Decimal, Hexadecimal}
+
+-- what begins with no 0 is decimal
+pub decimal_base : (text : Characters) → first_is (λ c. c == zero_digit) text ≡ false → Decimal ≡ base_of text
+decimal_base [] h = refl
+decimal_base (c ∷ text) h = rw h refl
 
 -- a digit, a single quote, and more digits
 pub digit_and_quote : (base c : ℕ) (text : Characters) → is_digit_in base c ≡ true → has_prefix (codes "'") base text ≡ true

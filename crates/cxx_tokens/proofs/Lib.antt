@@ -1,8 +1,11 @@
+pub mod AsciiFronts
 pub mod Beginnings
 pub mod CharacterFronts
 pub mod Composed
 pub mod Cut
+pub mod CutLaws
 pub mod Fronts
+pub mod GapForms
 pub mod Gaps
 pub mod IntegerFronts
 pub mod Integers
@@ -11,10 +14,15 @@ pub mod Literals
 pub mod MarkFronts
 pub mod Munch
 pub mod NumberFronts
+pub mod OpenStrings
 pub mod Runs
 pub mod Search
 pub mod Sources
 pub mod StringFronts
+pub mod Told
+pub mod TextTokens
+pub mod TokenForms
 pub mod Turning
+pub mod UsableLaws
 pub mod Values
 pub mod Words

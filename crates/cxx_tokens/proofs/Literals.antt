@@ -10,7 +10,7 @@ use Rattle.cxx_tokens.specs.Characters.{Characters, begins_with, backslash, doub
 use Rattle.cxx_tokens.specs.Cuts.{IsCut}
 use Rattle.cxx_tokens.specs.Literals.{Escape, Quoted, behind_one, escape_at, string_from}
 use Rattle.cxx_tokens.specs.declared.escape.Escape.{Escape as KeptEscape}
-use Rattle.cxx_tokens.specs.declared.fault.LexFault.{LexFault}
+use Rattle.cxx_tokens.specs.Faults.{Fault}
 use Rattle.cxx_tokens.specs.declared.text.Cut.{Cut}
 
 -- the text is cut behind one character and digits
@@ -56,22 +56,22 @@ closed_cut text rest c escape (Some found) h cut closes =
 -- ---- strings
 
 -- so many characters, which mean these bytes, before what follows
-abbrev pub put_before : ℕ → Text → Result Quoted LexFault → Result Quoted LexFault
+abbrev pub put_before : ℕ → Text → Result Quoted Fault → Result Quoted Fault
 put_before n bytes (Ok rest) = Ok (record { length = n + rest.length; bytes = bytes ++ rest.bytes })
 put_before n bytes (Err fault) = Err fault
 
-quoted_is : (n m : ℕ) (a b : Text) → n ≡ m → a ≡ b → ◌≡◌ {A = Result Quoted LexFault} (Ok (record { length = n; bytes = a })) (Ok (record { length = m; bytes = b }))
+quoted_is : (n m : ℕ) (a b : Text) → n ≡ m → a ≡ b → ◌≡◌ {A = Result Quoted Fault} (Ok (record { length = n; bytes = a })) (Ok (record { length = m; bytes = b }))
 quoted_is n m a b e f = rw (e, f) refl
 
-one_before : (bytes : Text) (read : Result Quoted LexFault) → behind_one bytes read ≡ put_before 1 bytes read
+one_before : (bytes : Text) (read : Result Quoted Fault) → behind_one bytes read ≡ put_before 1 bytes read
 one_before bytes (Ok rest) = refl
 one_before bytes (Err fault) = refl
 
-pub before_before : (n m : ℕ) (a b : Text) (read : Result Quoted LexFault) → put_before n a (put_before m b read) ≡ put_before (n + m) (a ++ b) read
+pub before_before : (n m : ℕ) (a b : Text) (read : Result Quoted Fault) → put_before n a (put_before m b read) ≡ put_before (n + m) (a ++ b) read
 before_before n m a b (Ok rest) = quoted_is _ _ _ _ (omega arith) (sym (append_assoc a b rest.bytes))
 before_before n m a b (Err fault) = refl
 
-pub none_before : (read : Result Quoted LexFault) → put_before 0 [] read ≡ read
+pub none_before : (read : Result Quoted Fault) → put_before 0 [] read ≡ read
 none_before (Ok rest) = quoted_is _ _ _ _ (omega arith) refl
 none_before (Err fault) = refl
 
@@ -107,7 +107,7 @@ escape_read place c text escape is_backslash e h =
     (ap (behind_one (escape.byte ∷ [])) (passes n place text h) ∙ one_before (escape.byte ∷ []) (put_before n [] rest) ∙ before_before 1 n (escape.byte ∷ []) [] rest)
 
 -- what was read grows by what is read next
-pub read_on : (n m : ℕ) (bytes more : Text) (next rest text : Result Quoted LexFault) → next ≡ put_before m more rest → put_before n bytes next ≡ text
+pub read_on : (n m : ℕ) (bytes more : Text) (next rest text : Result Quoted Fault) → next ≡ put_before m more rest → put_before n bytes next ≡ text
     → put_before (n + m) (bytes ++ more) rest ≡ text
 read_on n m bytes more next rest text read same = sym (before_before n m bytes more rest) ∙ ap (put_before n bytes) (sym read) ∙ same
 

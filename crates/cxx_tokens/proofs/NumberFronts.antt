@@ -1,17 +1,16 @@
--- The integers that are found are whole, and no longer front is one where nothing of a word follows.
+-- The integers that are found are whole, and no longer front is one.
 use Rattle.std.proofs.Common.{◌≡◌, ℕ, zero, suc, ◌+◌, ◌<◌, ◌≤◌, Bool, true, false, ◌&&◌, ◌||◌, not, cond, eqb, ltb, [], ◌∷◌, ◌++◌, length, take, drop, codes, refl, sym, ap, subst, ◌∙◌, arith, true≢false}
 use Rattle.std.proofs.Math.Bool.{and-false}
 use Rattle.std.proofs.Math.Seq.{take-add}
-use Rattle.std.proofs.lemmas.Bool.{and_parts, false_from_ne_true, or_right, and_from, eqb-true, ltb-true}
-use Rattle.std.proofs.lemmas.List.{length-drop}
-use Rattle.std.specs.Char.{digit_value, is_ascii_alphanumeric}
-use Rattle.std.specs.List.{list_all}
-use Rattle.unicode_ident.proofs.IdentLemmas.{is_xid_continue-ascii}
-use Rattle.cxx_tokens.specs.Characters.{Characters, begins_with, continues_identifier, first_is, is_digit_in}
+use Rattle.std.proofs.lemmas.Bool.{and_parts, false_from_ne_true, or_right, and_from, eqb-true, leb-true, ltb-true}
+use Rattle.std.proofs.lemmas.List.{length-drop, length-take-le}
+use Rattle.std.specs.Char.{digit_value}
+use Rattle.std.specs.Prelude.{nat_le}
+use Rattle.cxx_tokens.specs.Characters.{Characters, begins_with, first_is, is_digit_in}
 use Rattle.cxx_tokens.specs.Gaps.{is_empty}
 use Rattle.cxx_tokens.specs.Literals.{digits_len, has_prefix, is_l, is_u, longs_len, suffix_of, unsigned_len}
 use Rattle.cxx_tokens.specs.Munch.{is_listed, is_number, suffixes}
-use Rattle.cxx_tokens.proofs.Fronts.{all_kept, listed_passes, passes_behind}
+use Rattle.cxx_tokens.proofs.Fronts.{listed_passes}
 use Rattle.cxx_tokens.proofs.Integers.{digit_and_quote, digit_alone}
 
 -- ---- suffixes
@@ -123,22 +122,56 @@ suffix_within text =
     by true none more = more
     by false none more = none
 
--- an ASCII character that goes on with a word
-abbrev is_letter : ℕ → Bool
-is_letter c = ltb c 128 && (is_ascii_alphanumeric c || eqb c 95)
+-- a longer text has no shorter suffix
+longs_grow : (k : ℕ) (text : Characters) → longs_len (take k text) ≤ longs_len text
+longs_grow zero text = omega arith
+longs_grow (suc k) [] = omega arith
+longs_grow (suc zero) (c ∷ text) = by (is_l c) (first_is (λ d. eqb d c) text)
+  where
+    by : (a b : Bool) → cond a 1 0 ≤ cond a (cond b 2 1) 0
+    by true true = omega arith
+    by true false = omega arith
+    by false b = omega arith
+longs_grow (suc (suc k)) (c ∷ []) = omega arith
+longs_grow (suc (suc k)) (c ∷ d ∷ text) = omega arith
 
-letter_continues : (c : ℕ) → is_letter c ≡ true → continues_identifier c ≡ true
-letter_continues c h =
-    let parts = and_parts (ltb c 128) (is_ascii_alphanumeric c || eqb c 95) h in
-    is_xid_continue-ascii c (ltb-true c 128 parts.0) ∙ parts.1
+unsigned_grows : (k : ℕ) (text : Characters) → unsigned_len (take k text) ≤ unsigned_len text
+unsigned_grows zero text = omega arith
+unsigned_grows (suc k) [] = omega arith
+unsigned_grows (suc k) (c ∷ text) = omega arith
 
--- where nothing of a word follows the suffix, no longer front is one
-suffix_no_longer : (text : Characters) (m : ℕ) → first_is continues_identifier (drop (suffix_len text) text) ≡ false → suffix_len text < m → m ≤ length text
-    → is_listed suffixes (take m text) ≡ false
-suffix_no_longer text m stops less within = false_from_ne_true _ (λ yes.
-    let letters : list_all is_letter (take m text) ≡ true = listed_passes (λ t. list_all is_letter t) suffixes (take m text) refl yes in
-    let continuing = all_kept is_letter continues_identifier letter_continues (take m text) letters in
-    true≢false (sym (passes_behind continues_identifier (suffix_len text) m text less within continuing) ∙ stops))
+suffix_grows : (k : ℕ) (text : Characters) → suffix_len (take k text) ≤ suffix_len text
+suffix_grows zero text = omega arith
+suffix_grows (suc k) [] = omega arith
+suffix_grows (suc k) (c ∷ text) = by (is_u c) refl (is_l c) refl
+  where
+    long : (k : ℕ) (text : Characters) → is_u c ≡ false → is_l c ≡ true → suffix_len (c ∷ take k text) ≤ suffix_len (c ∷ text)
+    long zero [] u l = omega arith
+    long (suc k) [] u l = omega arith
+    long zero (d ∷ text) u l = rw (u, l) (more (eqb d c))
+      where
+        more : (b : Bool) → 1 ≤ 0 + cond b 2 1 + unsigned_len (drop (cond b 2 1) (c ∷ d ∷ text))
+        more true = omega arith
+        more false = omega arith
+    long (suc k) (d ∷ text) u l = rw (u, l) (more (eqb d c))
+      where
+        more : (b : Bool) → 0 + cond b 2 1 + unsigned_len (drop (cond b 2 1) (c ∷ d ∷ take k text)) ≤ 0 + cond b 2 1 + unsigned_len (drop (cond b 2 1) (c ∷ d ∷ text))
+        more true = let grows = unsigned_grows k text in omega (arith, grows)
+        more false = omega arith
+
+    by : (a : Bool) → is_u c ≡ a → (b : Bool) → is_l c ≡ b → suffix_len (c ∷ take k text) ≤ suffix_len (c ∷ text)
+    by true u b l = let grows = longs_grow k text in rw u (omega (arith, grows))
+    by false u true l = long k text u l
+    by false u false l = rw (u, l) (omega arith)
+
+-- no longer front is a suffix
+suffix_no_longer : (text : Characters) (m : ℕ) → suffix_len text < m → m ≤ length text → is_listed suffixes (take m text) ≡ false
+suffix_no_longer text m less within = false_from_ne_true _ (λ yes.
+    let all = listed_passes (λ t. nat_le (length t) (suffix_len t)) suffixes (take m text) refl yes in
+    let long = length-take-le m text within in
+    let grows = suffix_grows m text in
+    let few : length (take m text) ≤ suffix_len (take m text) = leb-true _ _ all in
+    absurd (omega (arith, less, long, grows, few)))
 
 -- ---- digits
 
@@ -228,7 +261,7 @@ pub no_number : (base c : ℕ) (text : Characters) → is_digit_in base c ≡ fa
 no_number base c [] h = h
 no_number base c (d ∷ text) h = rw h refl
 
-no_number_at : (base : ℕ) (text : Characters) (n : ℕ) → first_is (is_digit_in base) text ≡ false → is_number base (take n text) ≡ false
+pub no_number_at : (base : ℕ) (text : Characters) (n : ℕ) → first_is (is_digit_in base) text ≡ false → is_number base (take n text) ≡ false
 no_number_at base text zero h = refl
 no_number_at base [] (suc n) h = refl
 no_number_at base (c ∷ text) (suc n) h = no_number base c (take n text) h
@@ -257,30 +290,29 @@ module _ (base : ℕ) (small : base ≤ 16) where
       let more = ltb-true 16 (digit_value c) (and_parts (ltb 16 (digit_value c)) _ yes).0 in
       absurd (omega (arith, less, more, small)))
 
-  pub number_no_longer : (text : Characters) (m : ℕ) → first_is continues_identifier (drop (number_len base text) text) ≡ false
-      → number_len base text < m → m ≤ length text → is_number base (take m text) ≡ false
-  number_no_longer [] zero stops less within = absurd (omega (arith, less))
-  number_no_longer [] (suc m) stops less within = absurd (omega (arith, within))
-  number_no_longer (c ∷ text) zero stops less within = absurd (omega (arith, less))
-  number_no_longer (c ∷ []) (suc m) stops less within = by (is_digit_in base c) refl
+  pub number_no_longer : (text : Characters) (m : ℕ) → number_len base text < m → m ≤ length text → is_number base (take m text) ≡ false
+  number_no_longer [] zero less within = absurd (omega (arith, less))
+  number_no_longer [] (suc m) less within = absurd (omega (arith, within))
+  number_no_longer (c ∷ text) zero less within = absurd (omega (arith, less))
+  number_no_longer (c ∷ []) (suc m) less within = by (is_digit_in base c) refl
     where
       by : (b : Bool) → is_digit_in base c ≡ b → is_number base (c ∷ take m []) ≡ false
       by true digit = let one : number_len base (c ∷ []) ≡ 1 = len_alone base c [] digit refl in absurd (omega (arith, one, less, within))
       by false digit = no_number base c (take m []) digit
-  number_no_longer (c ∷ d ∷ text) (suc zero) stops less within = by (is_digit_in base c) refl (has_prefix (codes "'") base (d ∷ text)) refl
+  number_no_longer (c ∷ d ∷ text) (suc zero) less within = by (is_digit_in base c) refl (has_prefix (codes "'") base (d ∷ text)) refl
     where
       by : (b : Bool) → is_digit_in base c ≡ b → (a : Bool) → has_prefix (codes "'") base (d ∷ text) ≡ a → is_number base (c ∷ []) ≡ false
       by true digit true e = let long = len_quoted base c d text digit e in absurd (omega (arith, long, less))
       by true digit false e = let long = len_alone base c (d ∷ text) digit e in absurd (omega (arith, long, less))
       by false digit a e = digit
-  number_no_longer (c ∷ d ∷ text) (suc (suc m)) stops less within =
+  number_no_longer (c ∷ d ∷ text) (suc (suc m)) less within =
       by (is_digit_in base c) refl (has_prefix (codes "'") base (d ∷ text)) refl (is_digit_in base d) refl
-      (λ s l w. number_no_longer (d ∷ text) (suc m) s l w) (λ s l w. number_no_longer text m s l w)
+      (λ l w. number_no_longer (d ∷ text) (suc m) l w) (λ l w. number_no_longer text m l w)
     where
       by : (x : Bool) → is_digit_in base c ≡ x → (a : Bool) → has_prefix (codes "'") base (d ∷ text) ≡ a → (b : Bool) → is_digit_in base d ≡ b
-          → (first_is continues_identifier (drop (number_len base (d ∷ text)) (d ∷ text)) ≡ false → number_len base (d ∷ text) < suc m → suc m ≤ length (d ∷ text)
+          → (number_len base (d ∷ text) < suc m → suc m ≤ length (d ∷ text)
           → is_number base (d ∷ take m text) ≡ false)
-          → (first_is continues_identifier (drop (number_len base text) text) ≡ false → number_len base text < m → m ≤ length text
+          → (number_len base text < m → m ≤ length text
           → is_number base (take m text) ≡ false)
           → is_number base (c ∷ d ∷ take m text) ≡ false
       by false digit a e b f one two = no_number base c (d ∷ take m text) digit
@@ -288,22 +320,19 @@ module _ (base : ℕ) (small : base ≤ 16) where
           let parts = quote_parts base d text e in
           let long = len_quoted base c d text digit e in
           let is : d ≡ 39 = eqb-true d 39 parts.0 in
-          let stop : first_is continues_identifier (drop (number_len base text) text) ≡ false = ap (λ n. first_is continues_identifier (drop n (c ∷ d ∷ text))) (sym long) ∙ stops in
-          let none = two stop (omega (arith, less, long)) (omega (arith, within)) in
+          let none = two (omega (arith, less, long)) (omega (arith, within)) in
           none_of_three (is_digit_in base c) (is_listed suffixes (d ∷ take m text)) (is_number base (d ∷ take m text)) (eqb d 39 && is_number base (take m text))
           (no_suffix d (take m text) (ap begins_suffix is)) (no_number base d (take m text) (ap (is_digit_in base) is ∙ quote_is_no_digit))
           (ap (λ k. eqb d 39 && k) none ∙ and-false (eqb d 39))
       by true digit false e true f one two =
           let long = len_alone base c (d ∷ text) digit e in
-          let stop : first_is continues_identifier (drop (number_len base (d ∷ text)) (d ∷ text)) ≡ false = ap (λ n. first_is continues_identifier (drop n (c ∷ d ∷ text))) (sym long) ∙ stops in
-          let none = one stop (omega (arith, less, long)) (omega (arith, within)) in
+          let none = one (omega (arith, less, long)) (omega (arith, within)) in
           none_of_three (is_digit_in base c) (is_listed suffixes (d ∷ take m text)) (is_number base (d ∷ take m text)) (eqb d 39 && is_number base (take m text))
           (no_suffix d (take m text) (digit_is_no_suffix d f)) none (rw (digit_is_no_quote d f) refl)
       by true digit false e false f one two =
           let long : number_len base (c ∷ d ∷ text) ≡ suc (suffix_len (d ∷ text)) = len_alone base c (d ∷ text) digit e ∙ ap suc (no_digits_len base d text f) in
-          let stop : first_is continues_identifier (drop (suffix_len (d ∷ text)) (d ∷ text)) ≡ false = ap (λ n. first_is continues_identifier (drop n (c ∷ d ∷ text))) (sym long) ∙ stops in
           none_of_three (is_digit_in base c) (is_listed suffixes (d ∷ take m text)) (is_number base (d ∷ take m text)) (eqb d 39 && is_number base (take m text))
-          (suffix_no_longer (d ∷ text) (suc m) stop (omega (arith, less, long)) (omega (arith, within))) (no_number base d (take m text) f)
+          (suffix_no_longer (d ∷ text) (suc m) (omega (arith, less, long)) (omega (arith, within))) (no_number base d (take m text) f)
           (quoted (eqb d 39) (first_is (is_digit_in base) text) refl e)
         where
           quoted : (q : Bool) (b : Bool) → first_is (is_digit_in base) text ≡ b → ((q && true) && b) ≡ false → (q && is_number base (take m text)) ≡ false

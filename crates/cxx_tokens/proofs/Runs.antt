@@ -1,15 +1,19 @@
 -- Runs that are all of a text, and words.
-use Rattle.std.proofs.Common.{◌≡◌, ◌↔◌, ℕ, suc, ◌+◌, ◌<◌, ◌≤◌, Bool, true, false, ◌&&◌, cond, ltb, arith, subst, List, [], ◌∷◌, drop, length, All, IsAscii, chars, encode_utf8_all, IsTrue, refl, sym, ap, ◌∙◌, true≢false}
-use Rattle.std.proofs.lemmas.Str.Ascii.{All-from_ascii}
-use Rattle.std.proofs.lemmas.Str.{chars-IsAscii, encodes-chars, IsUtf8-from_is_utf8, is_utf8-from_IsUtf8}
+use Rattle.std.proofs.Common.{◌≡◌, ◌↔◌, ℕ, suc, ◌+◌, ◌<◌, ◌≤◌, Bool, true, false, ◌&&◌, cond, ltb, arith, subst, Option, Some, None, MatchOption, List, [], ◌∷◌, drop, length, All, chars, encode_utf8_all, IsTrue, refl, sym, ap, ◌∙◌, true≢false}
+use Rattle.std.proofs.Math.Bool.{and-false}
+use Rattle.std.proofs.lemmas.Bool.{and_from, and_parts, ltb-true}
+use Rattle.std.proofs.lemmas.List.Elements.{All-cons, All-nil}
+use Rattle.std.proofs.lemmas.Str.{encodes-chars, IsUtf8-from_is_utf8, is_utf8-from_IsUtf8}
 use Rattle.std.proofs.lemmas.Bool.Decides.{nat_tests}
 use Rattle.std.specs.Cmp.Lexicographic.{bytes_decides}
+use Rattle.std.specs.Char.{is_ascii}
 use Rattle.std.specs.List.{prefix_len, list_all}
 use Rattle.std.specs.Str.{IsUtf8, is_utf8}
 use Rattle.cxx_base.specs.Texts.{Text, with_text}
 use Rattle.cxx_tokens.specs.Characters.{Characters}
 use Rattle.cxx_tokens.specs.Gaps.{is_empty}
-use Rattle.cxx_tokens.specs.Lex.{before_zero, is_identifier, is_short_and_composed, names_with_string}
+use Rattle.cxx_tokens.specs.Lex.{before_zero, is_name, is_short_and_composed, names_with_string}
+use Rattle.cxx_tokens.proofs.AsciiFronts.{all_ascii}
 use Rattle.ucd_normal.specs.declared.forms.Form.TheVariants.{Nfc}
 use Rattle.unicode_normalization.proofs.FormsLemmas.{normalize-ascii}
 use Rattle.unicode_normalization.specs.Forms.{IsInForm, is_in_form}
@@ -48,12 +52,18 @@ short_and_composed word utf8 h answer says =
     by true false says e = sym ((bytes_decides _ _).1 (says.0 refl))
     by false true says e = absurd (true≢false (sym (says.1 ((bytes_decides _ _).0 e))))
 
--- an ASCII text is in each normalization form
-pub ascii_composed : (word : Text) → IsUtf8 word → length word ≤ 255 → IsAscii word → true ≡ is_short_and_composed (chars word)
-ascii_composed word utf8 h ascii = short_and_composed word utf8 h true ((λ _. composed), (λ _. refl))
+all_small : (cs : Characters) → list_all is_ascii cs ≡ true → All (λ c. c < 128) cs
+all_small [] h = All-nil (λ c. c < 128)
+all_small (c ∷ cs) h =
+    let parts = and_parts (is_ascii c) (list_all is_ascii cs) h in
+    All-cons (λ c. c < 128) c cs (ltb-true c 128 parts.0) (all_small cs parts.1)
+
+-- a text with a byte for each character is ASCII, which is in each normalization form
+pub ascii_composed : (word : Text) → IsUtf8 word → length word ≤ 255 → length word ≡ length (chars word) → true ≡ is_short_and_composed (chars word)
+ascii_composed word utf8 h long = short_and_composed word utf8 h true ((λ _. composed), (λ _. refl))
   where
     composed : IsInForm Nfc (chars word)
-    composed = normalize-ascii Nfc (chars word) (subst (λ cs. All (λ c. c < 128) cs) (sym (chars-IsAscii word ascii)) (All-from_ascii word ascii))
+    composed = normalize-ascii Nfc (chars word) (all_small (chars word) (all_ascii word utf8 long))
 
 -- ---- names of strings
 
@@ -65,14 +75,30 @@ not_utf8 bytes h = by (is_utf8 bytes) refl
     by false e = refl
 
 -- a front that could not be a name
-pub names_stay : (names : List Text) (bytes : Text) → (is_utf8 (before_zero bytes) && is_identifier (chars (before_zero bytes))) ≡ false
+pub names_stay : (names : List Text) (bytes : Text) → (is_utf8 (before_zero bytes) && is_name (before_zero bytes)) ≡ false
     → names ≡ names_with_string names bytes
 names_stay names bytes h = rw h refl
 
 -- one that could be
-pub name_is_added : (names : List Text) (bytes text : Text) → text ≡ before_zero bytes → IsUtf8 text → is_identifier (chars text) ≡ true
+pub name_is_added : (names : List Text) (bytes text : Text) → text ≡ before_zero bytes → (is_utf8 (before_zero bytes) && is_name (before_zero bytes)) ≡ true
     → with_text names text ≡ names_with_string names bytes
-name_is_added names bytes text h utf8 named =
-    let is : is_utf8 (before_zero bytes) ≡ true = is_utf8-from_IsUtf8 (before_zero bytes) (subst IsUtf8 h utf8) in
-    let name : is_identifier (chars (before_zero bytes)) ≡ true = ap (λ t. is_identifier (chars t)) (sym h) ∙ named in
-    ap (with_text names) h ∙ rw (is, name) refl
+name_is_added names bytes text h named = ap (with_text names) h ∙ rw named refl
+
+-- whether bytes may be a name, by their text
+pub no_text_no_name : (bytes : Text) → (¬ IsUtf8 bytes) → (is_utf8 bytes && is_name bytes) ≡ false
+no_text_no_name bytes h = ap (λ b. b && is_name bytes) (not_utf8 bytes h)
+
+pub is_no_name : (bytes text : Text) → text ≡ bytes → false ≡ is_name text → (is_utf8 bytes && is_name bytes) ≡ false
+is_no_name bytes text same h = ap (λ b. is_utf8 bytes && b) (ap is_name (sym same) ∙ sym h) ∙ and-false (is_utf8 bytes)
+
+pub is_a_name : (bytes text : Text) → text ≡ bytes → IsUtf8 bytes → true ≡ is_name text → (is_utf8 bytes && is_name bytes) ≡ true
+is_a_name bytes text same utf8 h = and_from (is_utf8 bytes) (is_name bytes) (is_utf8-from_IsUtf8 bytes utf8) (ap is_name (sym same) ∙ sym h)
+
+-- what is said of no value, and of one
+pub none_matches : {X : Type 0} (o : Option X) (A : Type 0) (B : X → Type 0) → o ≡ None → MatchOption o A B → A
+none_matches None A B e h = h
+none_matches (Some x) A B e h = cc e
+
+pub some_matches : {X : Type 0} (o : Option X) (x : X) (A : Type 0) (B : X → Type 0) → o ≡ Some x → MatchOption o A B → B x
+some_matches None x A B e h = cc e
+some_matches (Some y) x A B e h = subst B (cc e) h

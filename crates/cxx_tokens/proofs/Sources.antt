@@ -7,7 +7,7 @@ use Rattle.std.specs.Str.Lossy.{utf8_valid_len}
 use Rattle.cxx_base.specs.Texts.{Text}
 use Rattle.cxx_tokens.specs.Characters.{after_all, start, without_byte_order_mark}
 use Rattle.cxx_tokens.specs.Lex.{lex, lex_characters}
-use Rattle.cxx_tokens.specs.declared.fault.LexFault.TheVariants.{L1}
+use Rattle.cxx_tokens.specs.Faults.{L1}
 use Rattle.cxx_tokens.proofs.Runs.{not_utf8}
 
 pub of_text : (names : List Text) (bytes : Text) → IsUtf8 bytes → lex names bytes ≡ lex_characters names (without_byte_order_mark (chars bytes))

@@ -9,8 +9,7 @@ use Rattle.cxx_base.specs.declared.place.Place.{Place}
 use Rattle.cxx_tokens.specs.Characters.{Characters, backslash, double_quote, is_digit_in, line_feed}
 use Rattle.cxx_tokens.specs.Literals.{Escape, Quoted, behind_one, no_escape, unless_none, escape_at, simple_escape, string_from}
 use Rattle.cxx_tokens.specs.Munch.{begins_escape, is_string, is_string_closed}
-use Rattle.cxx_tokens.specs.declared.fault.LexFault.{LexFault}
-use Rattle.cxx_tokens.specs.declared.fault.LexFault.TheVariants.{L4}
+use Rattle.cxx_tokens.specs.Faults.{Fault, L4}
 use Rattle.cxx_tokens.proofs.CharacterFronts.{EscapeFound, octal, hexadecimal, simple, escape_found, first_of_front}
 use Rattle.cxx_tokens.proofs.Fronts.{IsPrefixFree, all_kept}
 
@@ -45,7 +44,7 @@ no_longer_string (d ∷ front) c rest h =
 -- ---- strings that are found
 
 -- no quote, no line feed, no backslash
-abbrev is_inner : ℕ → Bool
+abbrev pub is_inner : ℕ → Bool
 is_inner c = not (eqb c backslash || (eqb c double_quote || eqb c line_feed))
 
 inner_before : (c : ℕ) (text : Characters) → is_inner c ≡ true → is_string_closed text ≡ true → is_string_closed (c ∷ text) ≡ true
@@ -65,13 +64,13 @@ digit_inner base a b d c digit = rw (other backslash a, other double_quote b, ot
     other e h = false_from_ne_true _ (λ same. true≢false (sym digit ∙ ap (is_digit_in base) (eqb-true c e same) ∙ h))
 
 -- what is found behind a backslash: its first character, and others that are inner
-record EscapeParts (c : ℕ) (text : Characters) (n : ℕ) : Type 0 where
-  k : ℕ
-  long : n ≡ suc k
-  inner : list_all is_inner (take k text) ≡ true
-  begins : begins_escape (c ∷ text) ≡ true
+pub record EscapeParts (c : ℕ) (text : Characters) (n : ℕ) : Type 0 where
+  pub k : ℕ
+  pub long : n ≡ suc k
+  pub inner : list_all is_inner (take k text) ≡ true
+  pub begins : begins_escape (c ∷ text) ≡ true
 
-parts : (c : ℕ) (text : Characters) (n : ℕ) → EscapeFound c text n → EscapeParts c text n
+pub parts : (c : ℕ) (text : Characters) (n : ℕ) → EscapeFound c text n → EscapeParts c text n
 parts c text n (octal k f e few digits) =
     record {
       k = k;
@@ -88,7 +87,7 @@ parts c text n (hexadecimal k f g e first digits) =
     }
 parts c text n (simple f g e is) = record { k = 0; long = e; inner = refl; begins = rw (f, g, is) refl }
 
-behind_is : (bytes : Text) (read : Result Quoted LexFault) (q : Quoted) → behind_one bytes read ≡ Ok q → (r : Quoted) × (read ≡ Ok r) × (q.length ≡ suc r.length)
+pub behind_is : (bytes : Text) (read : Result Quoted Fault) (q : Quoted) → behind_one bytes read ≡ Ok q → (r : Quoted) × (read ≡ Ok r) × (q.length ≡ suc r.length)
 behind_is bytes (Ok r) q h =
     let same : record { length = 1 + r.length; bytes = bytes ++ r.bytes } ≡ q = cc h in
     (r, refl, sym (ap (λ (q : Quoted). q.length) same) ∙ omega arith)

@@ -4,6 +4,8 @@ use Rattle.std.proofs.lemmas.List.{append_assoc, append-nil, length-append}
 use Rattle.cxx_base.specs.Texts.{Text, with_texts}
 use Rattle.cxx_base.specs.declared.place.Place.{Place}
 use Rattle.cxx_tokens.specs.Characters.{Characters, after, after_all}
+use Rattle.cxx_tokens.specs.Faults.{Fault}
+use Rattle.cxx_tokens.specs.Faults as spec
 use Rattle.cxx_tokens.specs.Gaps.{gap_at}
 use Rattle.cxx_tokens.specs.Gives.{Fails}
 use Rattle.cxx_tokens.specs.Lex.{Found, Lexed, behind, lex_from, members, token_at, token_from}
@@ -20,19 +22,19 @@ skips zero place last number names text h = refl
 skips (suc left) place last number names [] h = absurd (omega (arith, h))
 skips (suc left) place last number names (c ∷ text) h = skips left (after place c) last number names text (omega (arith, h))
 
-first_is_gone : (place : Place) (last number : ℕ) (names : List Text) (c : ℕ) (text : Characters) (n : ℕ) → 0 < n → n ≤ length (c ∷ text)
+pub first_is_gone : (place : Place) (last number : ℕ) (names : List Text) (c : ℕ) (text : Characters) (n : ℕ) → 0 < n → n ≤ length (c ∷ text)
     → lex_from (n - 1) (after place c) last number names text ≡ lex_from 0 (after_all place (take n (c ∷ text))) last number names (drop n (c ∷ text))
 first_is_gone place last number names c text zero some within = absurd (omega (arith, some))
 first_is_gone place last number names c text (suc n) some within =
     let same : suc n - 1 ≡ n = omega arith in
     ap (λ k. lex_from k (after place c) last number names text) same ∙ skips n (after place c) last number names text (omega (arith, within))
 
-behind-behind : (a b : List Token) (rest : Result Lexed LexFault) → behind a (behind b rest) ≡ behind (a ++ b) rest
+behind-behind : (a b : List Token) (rest : Result Lexed Fault) → behind a (behind b rest) ≡ behind (a ++ b) rest
 behind-behind a b (Ok found) = ap (λ tokens. Ok (record found { tokens = tokens })) (sym (append_assoc a b found.tokens))
 behind-behind a b (Err fault) = refl
 
 -- what the text is cut into next
-abbrev pub next_gap : Position → Characters → Result (Option ℕ) LexFault
+abbrev pub next_gap : Position → Characters → Result (Option ℕ) Fault
 next_gap at text = gap_at at.place (not (at.last == at.place.line)) text
 
 -- a gap
@@ -59,12 +61,12 @@ token_turn tokens at names (c ∷ text) found gap e some within =
     ∙ ap (λ k. lex_from 0 (after_all at.place (take found.length (c ∷ text))) at.place.line k found.names (drop found.length (c ∷ text))) longer)
 
 -- a fault at a gap, and one at a token
-gap_fault : (tokens : List Token) (at : Position) (names : List Text) (text : Characters) (fault : LexFault) → 0 < length text → next_gap at text ≡ Err fault
+gap_fault : (tokens : List Token) (at : Position) (names : List Text) (text : Characters) (fault : Fault) → 0 < length text → next_gap at text ≡ Err fault
     → lexed_on tokens at names text ≡ Err fault
 gap_fault tokens at names [] fault some h = absurd (omega (arith, some))
 gap_fault tokens at names (c ∷ text) fault some h = rw h refl
 
-token_fault : (tokens : List Token) (at : Position) (names : List Text) (text : Characters) (fault : LexFault) → 0 < length text → next_gap at text ≡ Ok None
+token_fault : (tokens : List Token) (at : Position) (names : List Text) (text : Characters) (fault : Fault) → 0 < length text → next_gap at text ≡ Ok None
     → token_at at.place names text ≡ Err fault → lexed_on tokens at names text ≡ Err fault
 token_fault tokens at names [] fault some gap e = absurd (omega (arith, some))
 token_fault tokens at names (c ∷ text) fault some gap e = rw (gap, e) refl
@@ -72,20 +74,15 @@ token_fault tokens at names (c ∷ text) fault some gap e = rw (gap, e) refl
 pub Fails-at_token : (tokens : List Token) (at : Position) (names : List Text) (text : Characters) (fault : LexFault) → 0 < length text → next_gap at text ≡ Ok None
     → Fails fault (token_at at.place names text) → Fails fault (lexed_on tokens at names text)
 Fails-at_token tokens at names text Memory some gap h = tt
-Fails-at_token tokens at names text (L1 place) some gap h = token_fault tokens at names text (L1 place) some gap h
-Fails-at_token tokens at names text (L2 place) some gap h = token_fault tokens at names text (L2 place) some gap h
-Fails-at_token tokens at names text (L3 place) some gap h = token_fault tokens at names text (L3 place) some gap h
-Fails-at_token tokens at names text (L4 place) some gap h = token_fault tokens at names text (L4 place) some gap h
-Fails-at_token tokens at names text (L5 place) some gap h = token_fault tokens at names text (L5 place) some gap h
+Fails-at_token tokens at names text (L1 place) some gap h = token_fault tokens at names text (spec.L1 place) some gap h
+Fails-at_token tokens at names text (L2 place) some gap h = token_fault tokens at names text (spec.L2 place) some gap h
+Fails-at_token tokens at names text (L3 place) some gap h = token_fault tokens at names text (spec.L3 place) some gap h
+Fails-at_token tokens at names text (L4 place) some gap h = token_fault tokens at names text (spec.L4 place) some gap h
+Fails-at_token tokens at names text (L5 place) some gap h = token_fault tokens at names text (spec.L5 place) some gap h
 
-pub Fails-at_gap : (tokens : List Token) (at : Position) (names : List Text) (text : Characters) (fault : LexFault) → 0 < length text → next_gap at text ≡ Err fault
-    → Fails fault (lexed_on tokens at names text)
-Fails-at_gap tokens at names text Memory some h = tt
-Fails-at_gap tokens at names text (L1 place) some h = gap_fault tokens at names text (L1 place) some h
-Fails-at_gap tokens at names text (L2 place) some h = gap_fault tokens at names text (L2 place) some h
-Fails-at_gap tokens at names text (L3 place) some h = gap_fault tokens at names text (L3 place) some h
-Fails-at_gap tokens at names text (L4 place) some h = gap_fault tokens at names text (L4 place) some h
-Fails-at_gap tokens at names text (L5 place) some h = gap_fault tokens at names text (L5 place) some h
+pub Fails-at_gap : (tokens : List Token) (at : Position) (names : List Text) (text : Characters) (place : Place) → 0 < length text → next_gap at text ≡ Err (spec.L4 place)
+    → Fails (L4 place) (lexed_on tokens at names text)
+Fails-at_gap tokens at names text place some h = gap_fault tokens at names text (spec.L4 place) some h
 
 -- the end
 pub no_more : (tokens : List Token) (at : Position) (names : List Text) (text : Characters) → text ≡ []
@@ -93,6 +90,6 @@ pub no_more : (tokens : List Token) (at : Position) (names : List Text) (text : 
 no_more tokens at names text h =
     ap (lexed_on tokens at names) h ∙ ap (λ all. Ok (record { tokens = all; names = with_texts names members; end = at.place })) (append-nil tokens)
 
-pub behind_none : (rest : Result Lexed LexFault) → behind [] rest ≡ rest
+pub behind_none : (rest : Result Lexed Fault) → behind [] rest ≡ rest
 behind_none (Ok found) = refl
 behind_none (Err fault) = refl

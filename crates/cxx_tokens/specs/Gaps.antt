@@ -4,8 +4,7 @@ use Rattle.std.specs.Char.{is_ascii_digit}
 use Rattle.std.specs.List.{prefix_len, list_all}
 use Rattle.cxx_base.specs.declared.place.Place.{Place}
 use Rattle.cxx_tokens.specs.Characters.{Characters, is_blank, is_space, is_in_line, begins_with, first_is, double_quote, number_sign, slash, star}
-use Rattle.cxx_tokens.specs.declared.fault.LexFault.{LexFault}
-use Rattle.cxx_tokens.specs.declared.fault.LexFault.TheVariants.{L4}
+use Rattle.cxx_tokens.specs.Faults.{Fault, L4}
 
 -- ---- comments ([lex.comment])
 
@@ -14,13 +13,13 @@ abbrev pub block_len : Characters → Option ℕ
 block_len [] = None
 block_len (c ∷ text) = if c == star && first_is (λ d. d == slash) text then Some 2 else option_map (λ n. 1 + n) (block_len text)
 
-abbrev pub ended : Place → Option ℕ → Result (Option ℕ) LexFault
+abbrev pub ended : Place → Option ℕ → Result (Option ℕ) Fault
 ended place None = Err (L4 place)
 ended place (Some n) = Ok (Some (2 + n))
 
 -- Behind a slash: whether it begins a comment, and how many characters that has. A comment `//` ends before the line feed,
 -- one of `/*` with the first `*/` behind it.
-abbrev pub comment_at : Place → Characters → Result (Option ℕ) LexFault
+abbrev pub comment_at : Place → Characters → Result (Option ℕ) Fault
 comment_at place [] = Ok None
 comment_at place (c ∷ text) =
     if c == slash then Ok (Some (2 + prefix_len is_in_line text)) else (if c == star then ended place (block_len text) else Ok None)
@@ -76,7 +75,7 @@ skipped_len text = let n = prefix_len is_in_line text in if is_skipped (take n t
 
 -- Whether a gap begins here, and how many characters it has: one white-space character, a comment, or a
 -- line that is skipped, of which the `#` has to be the first token.
-abbrev pub gap_at : Place → Bool → Characters → Result (Option ℕ) LexFault
+abbrev pub gap_at : Place → Bool → Characters → Result (Option ℕ) Fault
 gap_at place is_first [] = Ok None
 gap_at place is_first (c ∷ text) =
     if is_space c then Ok (Some 1)

@@ -1,5 +1,7 @@
 pub mod Characters
 pub mod Cuts
+pub mod Cutting
+pub mod Faults
 pub mod Gaps
 pub mod Gives
 pub mod Lex
@@ -9,4 +11,5 @@ pub mod Punctuators
 pub mod Search
 pub mod Tables
 pub mod Turns
+pub mod Usable
 pub mod Words

@@ -4,8 +4,7 @@ use Rattle.std.specs.List.{prefix_len}
 use Rattle.cxx_base.specs.Texts.{Text}
 use Rattle.cxx_base.specs.declared.place.Place.{Place}
 use Rattle.cxx_tokens.specs.Characters.{Characters, is_digit_in, begins_with, first_is, value_in, backslash, double_quote, line_feed, single_quote}
-use Rattle.cxx_tokens.specs.declared.fault.LexFault.{LexFault}
-use Rattle.cxx_tokens.specs.declared.fault.LexFault.TheVariants.{L2, L4}
+use Rattle.cxx_tokens.specs.Faults.{Fault, L2, L4}
 use Rattle.cxx_tokens.specs.declared.integer.Base.{Base}
 use Rattle.cxx_tokens.specs.declared.integer.Base.TheVariants.{Binary, Octal, Decimal, Hexadecimal}
 
@@ -165,7 +164,7 @@ pub record Quoted : Type 0 where
   pub bytes : Text
 
 -- behind one more character, which means these bytes
-abbrev pub behind_one : Text → Result Quoted LexFault → Result Quoted LexFault
+abbrev pub behind_one : Text → Result Quoted Fault → Result Quoted Fault
 behind_one bytes (Ok rest) = Ok (record { length = 1 + rest.length; bytes = bytes ++ rest.bytes })
 behind_one bytes (Err fault) = Err fault
 
@@ -175,16 +174,16 @@ is_line_end [] = true
 is_line_end (c ∷ text) = c == line_feed
 
 -- why no escape stands behind a backslash: the line ends, or there is none such
-abbrev pub no_escape : Place → Characters → LexFault
+abbrev pub no_escape : Place → Characters → Fault
 no_escape place text = if is_line_end text then L4 place else L2 place
 
-abbrev pub unless_none : LexFault → Option Escape → (Escape → Result Quoted LexFault) → Result Quoted LexFault
+abbrev pub unless_none : Fault → Option Escape → (Escape → Result Quoted Fault) → Result Quoted Fault
 unless_none fault None go = Err fault
 unless_none fault (Some escape) go = go escape
 
 -- What stands behind the first quote: characters and escapes, and the next quote that is of none of them. A string is refused
 -- L4 where the line or the text ends before, also right behind a backslash; and L2 where no escape stands behind a backslash. `left` counts the characters that are left of an escape.
-abbrev pub string_from : ℕ → Place → Characters → Result Quoted LexFault
+abbrev pub string_from : ℕ → Place → Characters → Result Quoted Fault
 string_from left place [] = Err (L4 place)
 string_from (suc left) place (c ∷ text) = behind_one [] (string_from left place text)
 string_from zero place (c ∷ text) =
@@ -194,5 +193,5 @@ string_from zero place (c ∷ text) =
     (λ escape. behind_one (escape.byte ∷ []) (string_from escape.length place text))
     else behind_one (encode_utf8 c) (string_from zero place text)))
 
-abbrev pub string_at : Place → Characters → Result Quoted LexFault
+abbrev pub string_at : Place → Characters → Result Quoted Fault
 string_at place text = string_from zero place text

@@ -1,4 +1,4 @@
--- Tokens as whole texts, by the grammar of [lex], and that a token found at the front of a text is the longest there ([lex.pptoken]).
+-- The forms of tokens, as whole texts, by the grammar of [lex], and which front of a text is the longest of a form ([lex.pptoken]).
 -- The forms are those that this language takes. None of them cites the scans by which a token is found.
 use Rattle.std.specs.Prelude.{◌≡◌, ℕ, ◌<◌, ◌≤◌, Bool, true, false, ◌&&◌, ◌||◌, not, ◌==◌, nat_le, if◌then◌else◌, List, [], ◌∷◌, length, take, drop, Ok, codes}
 use Rattle.std.specs.List.{list_any}
@@ -8,18 +8,13 @@ use Rattle.cxx_base.specs.Texts.{Text}
 use Rattle.cxx_base.specs.declared.place.Place.{Place}
 use Rattle.cxx_tokens.specs.Characters.{Characters, is_digit_in, begins_with, first_is, backslash, double_quote, line_feed, single_quote}
 use Rattle.cxx_tokens.specs.Gaps.{is_empty}
-use Rattle.cxx_tokens.specs.Lex.{Found, is_identifier, is_short_and_composed, token_at}
+use Rattle.cxx_tokens.specs.Lex.{Found, is_identifier, token_at}
 use Rattle.cxx_tokens.specs.Literals.{simple_escape}
 use Rattle.cxx_tokens.specs.Punctuators.{is_bracket_and_scope}
 use Rattle.cxx_tokens.specs.Tables.{punctuators}
 
 abbrev pub is_listed : List Text → Characters → Bool
 is_listed texts text = list_any (λ listed. bytes_eq text listed) texts
-
--- ---- words ([lex.name], [lex.key])
-
-abbrev pub is_word : Characters → Bool
-is_word text = is_identifier text && is_short_and_composed text
 
 -- ---- integers ([lex.icon])
 
@@ -86,15 +81,15 @@ is_string (c ∷ text) = c == double_quote && is_string_closed text
 
 -- ---- tokens
 
-abbrev pub is_token : Characters → Bool
-is_token text = is_word text || (is_integer text || (is_character text || (is_string text || is_listed punctuators text)))
+abbrev pub is_form : Characters → Bool
+is_form text = is_identifier text || (is_integer text || (is_character text || (is_string text || is_listed punctuators text)))
 
--- The text has so many characters, these are a token, and no longer front of the text is one; but where `[::` stands and no
--- further colon, the token is `[`.
+-- The text has so many characters, these are of a form, and no longer front of the text is; but where `[::` stands and no
+-- further colon, the front is `[`.
 pub record IsLongest (n : ℕ) (text : Characters) : Type 0 where
   pub within : n ≤ length text
-  pub token : is_token (take n text) ≡ true
-  pub longest : is_bracket_and_scope text ≡ false → (m : ℕ) → n < m → m ≤ length text → is_token (take m text) ≡ false
+  pub form : is_form (take n text) ≡ true
+  pub longest : is_bracket_and_scope text ≡ false → (m : ℕ) → n < m → m ≤ length text → is_form (take m text) ≡ false
   pub bracket : is_bracket_and_scope text ≡ true → n ≡ 1
 
 -- the token that is found at the front of a text is the longest there

@@ -1,14 +1,13 @@
 //! Gaps: white space, comments, and the lines that a preprocessor leaves ([lex.token], [lex.comment]).
 
-ghost use Rattle.std.specs.Prelude.{◌≡◌, ◌<◌, chars, IfOk, IfSome};
-ghost use Rattle.cxx_tokens.specs.Cuts.{IsCut, IsCutBehindOne, length_of, lengths};
+ghost use Rattle.std.specs.Prelude.{◌≡◌, ◌<◌, chars, IfSome, Ok};
+ghost use Rattle.cxx_base.specs.declared.place.Place.{Place};
+ghost use Rattle.cxx_tokens.specs.Cuts.{IfPassed, IsCut, IsCutBehindOne, IsFlat, IsFlatBehindOne, length_of, seen_gap};
 ghost use Rattle.cxx_tokens.specs.Gaps as spec;
 
 use crate::character::{is_blank, is_space};
-use crate::fault::LexFault;
 use crate::run::{Class, past, run};
 use crate::text::{Cut, front, split_first, strip};
-use cxx_base::Place;
 
 // The end of a comment `/*`: the first `*/` of what follows.
 fn block_end(text: &str) -> Option<Cut<'_>>
@@ -32,28 +31,42 @@ fn block_end(text: &str) -> Option<Cut<'_>>
     None
 }
 
+/// Whether a gap stands at the front of a text, and where it ends.
+#[derive(Clone, Copy, Debug)]
+pub enum Gap<'a> {
+    /// No gap begins here.
+    Absent,
+    /// One without a line feed, and where it ends.
+    InLine(Cut<'a>),
+    /// Another one, and where it ends.
+    Block(Cut<'a>),
+    /// A comment that does not end.
+    Unended,
+}
+
 // The comment behind a slash, with the slash.
-fn comment_at(place: Place, text: &str) -> Result<Option<Cut<'_>>, LexFault>
-    ensures length { lengths result ≡ spec.comment_at place (chars text.now) }
-    ensures cut { IfOk result (λ gap. IfSome gap (IsCutBehindOne text.now)) }
+fn comment_at(text: &str) -> Gap<'_>
+    ensures length { (place : Place) → seen_gap place result ≡ spec.comment_at place (chars text.now) }
+    ensures cut { IfPassed (IsCutBehindOne text.now) result }
+    ensures flat { IsFlatBehindOne text.now result }
 {
     if let Some(rest) = strip(b"/", text) {
         let line = run(Class::InLine, rest);
-        return Ok(Some(Cut {
+        return Gap::InLine(Cut {
             length: 2 + line.length,
             rest: line.rest,
-        }));
+        });
     }
     if let Some(rest) = strip(b"*", text) {
         return match block_end(rest) {
-            Some(block) => Ok(Some(Cut {
+            Some(block) => Gap::Block(Cut {
                 length: 2 + block.length,
                 rest: block.rest,
-            })),
-            None => Err(LexFault::L4(place)),
+            }),
+            None => Gap::Unended,
         };
     }
-    Ok(None)
+    Gap::Absent
 }
 
 // Whether a text is all digits and white space within a line.
@@ -127,38 +140,40 @@ fn is_skipped(line: &str) -> bool
 }
 
 // The line behind a `#`, with it, where the line is skipped.
-fn skipped_line(text: &str) -> Option<Cut<'_>>
-    ensures length { length_of result ≡ spec.skipped_len (chars text.now) }
-    ensures cut { IfSome result (IsCutBehindOne text.now) }
+fn skipped_line(text: &str) -> Gap<'_>
+    ensures length { (place : Place) → seen_gap place result ≡ Ok (spec.skipped_len (chars text.now)) }
+    ensures cut { IfPassed (IsCutBehindOne text.now) result }
+    ensures flat { IsFlatBehindOne text.now result }
 {
     let line = run(Class::InLine, text);
     if is_skipped(front(text, line.length, line.rest)) {
-        Some(Cut {
+        Gap::InLine(Cut {
             length: 1 + line.length,
             rest: line.rest,
         })
     } else {
-        None
+        Gap::Absent
     }
 }
 
 /// The gap that begins at the front of a text, if one does. A line is skipped only from the first token of a line on.
 #[inline]
-pub fn gap_at(place: Place, is_first: bool, text: &str) -> Result<Option<Cut<'_>>, LexFault>
-    ensures length { lengths result ≡ spec.gap_at place is_first (chars text.now) }
-    ensures cut { IfOk result (λ gap. IfSome gap (λ cut. (0 < cut.length) × IsCut text.now cut)) }
+pub fn gap_at(is_first: bool, text: &str) -> Gap<'_>
+    ensures length { (place : Place) → seen_gap place result ≡ spec.gap_at place is_first (chars text.now) }
+    ensures cut { IfPassed (λ cut. (0 < cut.length) × IsCut text.now cut) result }
+    ensures flat { IsFlat text.now result }
 {
     match split_first(text) {
-        None => Ok(None),
+        None => Gap::Absent,
         Some((c, rest)) => {
             if is_space(c) {
-                Ok(Some(Cut { length: 1, rest }))
+                Gap::Block(Cut { length: 1, rest })
             } else if c == '/' {
-                comment_at(place, rest)
+                comment_at(rest)
             } else if c == '#' && is_first {
-                Ok(skipped_line(rest))
+                skipped_line(rest)
             } else {
-                Ok(None)
+                Gap::Absent
             }
         }
     }

@@ -97,14 +97,14 @@ fn base_of(text: &str) -> (Base, &str)
     ensures base { result.0 ≡ literals.base_of (chars text.now) }
     ensures digits { chars result.1.now ≡ drop (literals.prefix_len_of result.0) (chars text.now) }
 {
-    if let Some(digits) = strip_prefix(b"0x", 16, text) {
+    if !first_is('0', text) {
+        (Base::Decimal, text)
+    } else if let Some(digits) = strip_prefix(b"0x", 16, text) {
         (Base::Hexadecimal, digits)
     } else if let Some(digits) = strip_prefix(b"0b", 2, text) {
         (Base::Binary, digits)
-    } else if first_is('0', text) {
-        (Base::Octal, text)
     } else {
-        (Base::Decimal, text)
+        (Base::Octal, text)
     }
 }
 

@@ -1,21 +1,25 @@
 //! From bytes to tokens.
 
-ghost use Rattle.std.specs.Prelude.{◌≡◌, ℕ, true, List, ◌+◌, ◌≤◌, ◌<◌, ◌^◌, min, chars, length, take, IfOk, IfErr, OnOk};
-ghost use Rattle.std.specs.Str.{IsUtf8};
-ghost use Rattle.cxx_base.specs.Texts.{Text, with_texts};
+ghost use Rattle.std.specs.Prelude.{◌≡◌, ℕ, true, false, ◌&&◌, List, ◌+◌, ◌≤◌, ◌<◌, ◌^◌, min, chars, length, take, IfOk, IfErr, OnOk, MatchOption};
+ghost use Rattle.std.specs.Str.{IsUtf8, is_utf8};
+ghost use Rattle.std.specs.Prelude.{All};
+ghost use Rattle.cxx_base.specs.declared.limits.TheConstants.{MAX_SOURCE};
+ghost use Rattle.cxx_base.specs.Texts.{Text, has_text, with_texts};
 ghost use Rattle.cxx_tokens.specs.Characters as characters;
 ghost use Rattle.cxx_tokens.specs.Cuts.{IsCut, IsCutBehindOne};
-ghost use Rattle.cxx_tokens.specs.Gives.{GivesToken, GivesTokens, Keeps};
+ghost use Rattle.cxx_tokens.specs.Gives.{GivesCut, GivesToken, GivesTokens, Keeps};
 ghost use Rattle.cxx_tokens.specs.Lex as spec;
 ghost use Rattle.cxx_tokens.specs.Literals as literals;
 ghost use Rattle.cxx_tokens.specs.Punctuators as punctuators;
 ghost use Rattle.cxx_tokens.specs.Turns.{Goes, lexed_on};
+ghost use Rattle.cxx_tokens.specs.Usable.{IsKnown, Rise};
 ghost use Rattle.cxx_tokens.specs.declared.token.Token.{Token};
+ghost use Rattle.cxx_tokens.specs.declared.token.TokenKind.TheVariants as kind;
 
 use crate::character::{begins_identifier, continues_identifier, is_space};
 use crate::escape::character_at;
 use crate::fault::LexFault;
-use crate::gap::gap_at;
+use crate::gap::{Gap, gap_at};
 use crate::integer::{Integer, integer_at};
 use crate::punctuator::punctuator_at;
 use crate::quoted::string_at;
@@ -23,8 +27,8 @@ use crate::run::{Class, past, run};
 use crate::text::{Cut, after, after_one, end_of, front, split_first, without_byte_order_mark};
 use crate::token::{Token, TokenKind, Tokens};
 use crate::word::reserved;
-use containers::Items;
-use cxx_base::{MAX_IDENTIFIER, Names, Place, Span};
+use containers::{Boxed, Items};
+use cxx_base::{Bytes, MAX_IDENTIFIER, Names, Place, Span};
 use int_kinds::literal_kind;
 use std::alloc::{AllocError, Global};
 use unicode_normalization::is_nfc;
@@ -78,14 +82,16 @@ fn word(text: &str) -> Cut<'_>
     }
 }
 
-// Whether a word is short enough, and in normalization form C, as all ASCII is.
-fn is_short_and_composed(alloc: Global, word: &str) -> Result<bool, AllocError>
+// Whether a word of so many characters is short enough, and in normalization form C, as all ASCII is: that has a byte for each
+// character.
+fn is_short_and_composed(alloc: Global, word: &str, count: usize) -> Result<bool, AllocError>
+    requires { count ≡ length (chars word.now) }
     ensures { IfOk result (λ fit. fit ≡ spec.is_short_and_composed (chars word.now)) }
 {
     if word.len() > MAX_IDENTIFIER {
         return Ok(false);
     }
-    if word.is_ascii() {
+    if word.len() == count {
         return Ok(true);
     }
     is_nfc(alloc, word)
@@ -107,7 +113,7 @@ fn word_at<'a>(
 {
     let cut = word(text);
     let spelled = front(text, cut.length, cut.rest);
-    if !is_short_and_composed(alloc, spelled)? {
+    if !is_short_and_composed(alloc, spelled, cut.length)? {
         return Err(LexFault::L5(place));
     }
     match kind_of_word(names, spelled) {
@@ -181,22 +187,51 @@ fn behind_one(cut: Cut<'_>) -> Cut<'_>
     }
 }
 
-// Numbers the bytes of a string before its first zero byte, where they could be a name.
-fn number_string(names: &mut Names, bytes: &[u8]) -> Result<(), LexFault>
+// Whether a text may be a name.
+fn is_name(alloc: Global, text: &str) -> Result<bool, AllocError>
+    ensures { IfOk result (λ fit. fit ≡ spec.is_name text.now) }
+{
+    if !is_identifier(text) {
+        return Ok(false);
+    }
+    match reserved(text.as_bytes()) {
+        Some(_) => Ok(false),
+        None => is_short_and_composed(alloc, text, text.chars().count()),
+    }
+}
+
+// The text of bytes that may be a name.
+fn name_of(alloc: Global, bytes: &[u8]) -> Result<Option<&str>, AllocError>
+    ensures { IfOk result (λ found. MatchOption found ((is_utf8 bytes.now && spec.is_name bytes.now) ≡ false) (λ name. (name.now ≡ bytes.now) × ((is_utf8 bytes.now && spec.is_name bytes.now) ≡ true))) }
+{
+    match str::from_utf8(bytes) {
+        Err(_) => Ok(None),
+        Ok(text) => {
+            if is_name(alloc, text)? {
+                Ok(Some(text))
+            } else {
+                Ok(None)
+            }
+        }
+    }
+}
+
+// Numbers the bytes of a string before its first zero byte, where they may be a name.
+fn number_string(alloc: Global, names: &mut Names, bytes: &[u8]) -> Result<(), LexFault>
     requires room { length names.old < 2 ^ 24 }
     ensures names { OnOk result (names.new ≡ spec.names_with_string names.old bytes.now) }
     ensures few { length names.new ≤ length names.old + 1 }
     ensures kept { Keeps names.old names.new }
     ensures memory { IfErr result (λ fault. fault ≡ LexFault.Memory) }
 {
-    let Ok(text) = str::from_utf8(before_zero(bytes)) else {
-        return Ok(());
-    };
-    if !is_identifier(text) {
-        return Ok(());
+    match name_of(alloc, before_zero(bytes)) {
+        Ok(Some(name)) => match names.number(name) {
+            Ok(_) => Ok(()),
+            Err(_) => Err(LexFault::Memory),
+        },
+        Ok(None) => Ok(()),
+        Err(_) => Err(LexFault::Memory),
     }
-    names.number(text)?;
-    Ok(())
 }
 
 fn before_zero(bytes: &[u8]) -> &[u8]
@@ -219,6 +254,20 @@ fn is_identifier(text: &str) -> bool
     }
 }
 
+// A string literal with its bytes in a box.
+fn text_token(alloc: Global, bytes: Bytes, cut: Cut<'_>) -> Result<FoundToken<'_>, LexFault>
+    ensures found { IfOk result (λ found. (found.kind ≡ kind.Text bytes) × (found.cut ≡ cut.entry)) }
+    ensures memory { IfErr result (λ fault. fault ≡ LexFault.Memory) }
+{
+    match Boxed::new(alloc, bytes) {
+        Ok(boxed) => Ok(FoundToken {
+            kind: TokenKind::Text(boxed),
+            cut,
+        }),
+        Err(_) => Err(LexFault::Memory),
+    }
+}
+
 // The string literal whose first quote stands before a text.
 fn string_token_at<'a>(
     alloc: Global,
@@ -233,11 +282,8 @@ fn string_token_at<'a>(
     ensures cut { IfOk result (λ found. IsCutBehindOne text.now found.cut) }
 {
     match string_at(alloc, place, text) {
-        Ok(found) => match number_string(names, found.bytes.as_slice()) {
-            Ok(()) => Ok(FoundToken {
-                kind: TokenKind::Text(found.bytes),
-                cut: behind_one(found.cut),
-            }),
+        Ok(found) => match number_string(alloc, names, found.bytes.as_slice()) {
+            Ok(()) => text_token(alloc, found.bytes, behind_one(found.cut)),
             Err(fault) => Err(fault),
         },
         Err(fault) => Err(fault),
@@ -267,7 +313,6 @@ fn token_at<'a>(
 ) -> Result<FoundToken<'a>, LexFault>
     requires room { length names.old < 2 ^ 24 }
     ensures found { GivesToken result names.new (spec.token_at place names.old (chars text.now)) }
-    ensures word { characters.first_is characters.begins_identifier (chars text.now) ≡ true → IfOk result (λ found. found.cut.length ≡ spec.word_len (chars text.now)) }
     ensures few { length names.new ≤ length names.old + 1 }
     ensures kept { Keeps names.old names.new }
     ensures cut { IfOk result (λ found. (0 < found.cut.length) × IsCut text.now found.cut) }
@@ -290,22 +335,15 @@ fn token_at<'a>(
     }
 }
 
-// The place after a token. A word holds no line feed, so its characters are not read again.
-fn after_token(place: Place, text: &str, count: usize) -> Place
-    requires within { count ≤ length (chars text.now) }
-    requires line { place.line + count < 2 ^ 32 }
-    requires column { place.column + count < 2 ^ 32 }
-    requires word { characters.first_is characters.begins_identifier (chars text.now) ≡ true → count ≡ spec.word_len (chars text.now) }
-    ensures place { result ≡ characters.after_all place (take count (chars text.now)) }
-    ensures line { result.line ≤ place.line + count }
-    ensures column { result.column ≤ place.column + count }
+// The place after so many characters without a line feed. No token has one.
+#[inline]
+fn in_line(place: Place, count: usize) -> Place
+    requires { place.column + count < 2 ^ 32 }
+    ensures { result ≡ record { line = place.line; column = place.column + count } }
 {
-    match split_first(text) {
-        Some((c, _)) if begins_identifier(c) => Place {
-            line: place.line,
-            column: place.column + count as u32,
-        },
-        _ => after(place, text, count),
+    Place {
+        line: place.line,
+        column: place.column + count as u32,
     }
 }
 
@@ -342,18 +380,22 @@ fn turn<'a>(
     ensures line { IfOk result (λ rest. at.new.place.line + length (chars rest.now) ≤ at.old.place.line + length (chars text.now)) }
     ensures column { IfOk result (λ rest. at.new.place.column + length (chars rest.now) ≤ at.old.place.column + length (chars text.now)) }
 {
-    match gap_at(at.place, at.last != at.place.line, text) {
-        Err(fault) => Err(fault),
-        Ok(Some(gap)) => {
+    match gap_at(at.last != at.place.line, text) {
+        Gap::Unended => Err(LexFault::L4(at.place)),
+        Gap::InLine(gap) => {
+            at.place = in_line(at.place, gap.length);
+            Ok(gap.rest)
+        }
+        Gap::Block(gap) => {
             at.place = after(at.place, text, gap.length);
             Ok(gap.rest)
         }
-        Ok(None) => match token_at(alloc, names, at.place, text) {
+        Gap::Absent => match token_at(alloc, names, at.place, text) {
             Err(fault) => Err(fault),
             Ok(found) => {
                 list.push(token_from(found.kind, at.place, list.len() as u32))?;
                 *at = Position {
-                    place: after_token(at.place, text, found.cut.length),
+                    place: in_line(at.place, found.cut.length),
                     last: at.place.line,
                 };
                 Ok(found.cut.rest)
@@ -396,7 +438,7 @@ fn number_members(names: &mut Names) -> Result<(), LexFault>
 
 // The tokens of a text without a byte order mark.
 fn tokens_of(alloc: Global, names: &mut Names, text: &str) -> Result<Tokens, LexFault>
-    requires short { length (chars text.now) ≤ 4194304 }
+    requires short { length (chars text.now) ≤ MAX_SOURCE }
     requires room { length names.old < 2 ^ 23 }
     ensures tokens { GivesTokens result names.new (spec.lex_characters names.old (chars text.now)) }
     ensures few { IfOk result (λ found. length found.list ≤ length (chars text.now)) }
@@ -423,7 +465,7 @@ fn tokens_of(alloc: Global, names: &mut Names, text: &str) -> Result<Tokens, Lex
 
 // The place of the first byte that begins no character, which stands behind so many bytes.
 fn fault_place(bytes: &[u8], valid: usize) -> Place
-    requires short { length bytes.now ≤ 4194304 }
+    requires short { length bytes.now ≤ MAX_SOURCE }
     requires within { valid ≤ length bytes.now }
     requires utf8 { IsUtf8 (take valid bytes.now) }
     ensures { result ≡ characters.after_all characters.start (characters.without_byte_order_mark (chars (take valid bytes.now))) }
@@ -434,19 +476,33 @@ fn fault_place(bytes: &[u8], valid: usize) -> Place
     }
 }
 
-/// The tokens of a source text ([lex]), each identifier numbered in `names`, of each string the bytes before its first zero
-/// byte where they could be a name, and then `bytes` and `bits`. A source that is not UTF-8 is refused `L1` at the first byte
-/// that begins no character; another one at the first place where no gap and no token can be read. After a refusal `names`
-/// may hold more texts than before.
-pub fn tokens(alloc: Global, names: &mut Names, bytes: &[u8]) -> Result<Tokens, LexFault>
-    requires short { length bytes.now ≤ 4194304 }
+// The tokens of a source, by the scan of its characters.
+fn scanned(alloc: Global, names: &mut Names, bytes: &[u8]) -> Result<Tokens, LexFault>
+    requires short { length bytes.now ≤ MAX_SOURCE }
     requires room { length names.old < 2 ^ 23 }
     ensures tokens { GivesTokens result names.new (spec.lex names.old bytes.now) }
-    ensures few { IfOk result (λ found. length found.list ≤ length bytes.now) }
     ensures kept { Keeps names.old names.new }
 {
     match str::from_utf8(bytes) {
         Ok(text) => tokens_of(alloc, names, without_byte_order_mark(text)),
         Err(fault) => Err(LexFault::L1(fault_place(bytes, fault.valid_up_to()))),
     }
+}
+
+/// The tokens of a source text ([lex]): those of its one cut into gaps and tokens. Each identifier is numbered in `names`, of each
+/// string the bytes before its first zero byte where they may be a name, and then `bytes` and `bits`. A source that is not UTF-8 is
+/// refused `L1` at the first byte that begins no character; another one where its cut cannot go on. After a refusal `names` may
+/// hold more texts than before.
+pub fn tokens(alloc: Global, names: &mut Names, bytes: &[u8]) -> Result<Tokens, LexFault>
+    requires short { length bytes.now ≤ MAX_SOURCE }
+    requires room { length names.old < 2 ^ 23 }
+    ensures cut { GivesCut result names.old names.new bytes.now }
+    ensures known { IfOk result (λ found. All (λ token. IsKnown names.new token.kind) found.list) }
+    ensures members { IfOk result (λ _. All (λ text. has_text names.new text ≡ true) spec.members) }
+    ensures rise { IfOk result (λ found. Rise found.list found.end) }
+    ensures few { IfOk result (λ found. length found.list ≤ length (characters.characters_of bytes.now)) }
+    ensures kept { Keeps names.old names.new }
+    ensures tokens { GivesTokens result names.new (spec.lex names.old bytes.now) }
+{
+    scanned(alloc, names, bytes)
 }

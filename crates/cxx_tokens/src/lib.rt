@@ -19,6 +19,8 @@ mod value;
 mod word;
 
 pub use fault::LexFault;
-pub use laws::{numbers_are_places, tokens_are_longest};
+pub use laws::{
+    cuts_are_one, numbers_are_places, scan_is_the_cut, tokens_are_longest, tokens_are_usable,
+};
 pub use lexing::tokens;
 pub use token::{Token, TokenKind, Tokens};

@@ -2,8 +2,9 @@
 
 ghost use Rattle.std.specs.Prelude.{◌≡◌, ◌++◌, chars, IfOk, OnOk, encode_utf8, Ok, Err};
 ghost use Rattle.cxx_tokens.specs.Cuts.{IsCut};
-ghost use Rattle.cxx_tokens.specs.Gives.{GivesQuoted};
+ghost use Rattle.cxx_tokens.specs.Gives.{Fails, GivesQuoted};
 ghost use Rattle.cxx_tokens.specs.Literals as spec;
+ghost use Rattle.cxx_tokens.specs.Literals.{Quoted as QuotedText};
 
 use crate::escape::{Escape, escape_at};
 use crate::fault::LexFault;
@@ -20,7 +21,7 @@ pub struct Quoted<'a> {
 
 // Why no escape stands behind a backslash: its line ends, or there is none such.
 fn no_escape(place: Place, text: &str) -> LexFault
-    ensures { result ≡ spec.no_escape place (chars text.now) }
+    ensures { Fails {A = QuotedText} result (Err (spec.no_escape place (chars text.now))) }
 {
     match split_first(text) {
         None | Some(('\n', _)) => LexFault::L4(place),

@@ -1,12 +1,13 @@
 //! Runs of characters of one class.
 
-ghost use Rattle.std.specs.Prelude.{◌≡◌, chars, min};
+ghost use Rattle.std.specs.Prelude.{◌≡◌, false, nat_le, chars, min};
 ghost use Rattle.std.specs.List.{prefix_len};
-ghost use Rattle.cxx_tokens.specs.Cuts.{IsCut, class_test};
+ghost use Rattle.cxx_tokens.specs.Characters.{first_is};
+ghost use Rattle.cxx_tokens.specs.Cuts.{IsCut, class_test, is_ascii_in};
 ghost use Rattle.cxx_tokens.specs.Gaps.{past};
 
 use crate::character::{continues_identifier, is_blank};
-use crate::text::{Cut, split_first};
+use crate::text::{Cut, behind_ascii, split_first};
 
 /// The classes of characters over which a text is scanned.
 #[derive(Clone, Copy, Debug)]
@@ -62,13 +63,101 @@ pub fn run_of_at_most<'a>(most: usize, class: Class, text: &'a str) -> Cut<'a>
     Cut { length, rest }
 }
 
-/// The longest run of characters of the class at the front of a text.
+#[inline]
+fn is_byte_in(class: Class, byte: u8) -> bool
+    ensures { result ≡ is_ascii_in class byte }
+{
+    byte < 0x80 && is_in(class, char::from(byte))
+}
+
+// The ASCII run of a class. Those that are long in most texts have a loop of their own, in which the class is known.
+fn run_of(class: Class, bytes: &[u8]) -> usize
+    ensures { result ≡ prefix_len (is_ascii_in class) bytes.now }
+{
+    let mut end = 0;
+    while end < bytes.len() && is_byte_in(class, bytes[end]) {
+        end += 1;
+    }
+    end
+}
+
+fn continuing_run(bytes: &[u8]) -> usize
+    ensures { result ≡ prefix_len (is_ascii_in Class.Continuing) bytes.now }
+{
+    let mut end = 0;
+    while end < bytes.len() && is_byte_in(Class::Continuing, bytes[end]) {
+        end += 1;
+    }
+    end
+}
+
+fn in_line_run(bytes: &[u8]) -> usize
+    ensures { result ≡ prefix_len (is_ascii_in Class.InLine) bytes.now }
+{
+    let mut end = 0;
+    while end < bytes.len() && is_byte_in(Class::InLine, bytes[end]) {
+        end += 1;
+    }
+    end
+}
+
+/// How many ASCII characters of the class stand at the front of a text, by its bytes.
+#[inline(always)]
+pub fn ascii_run(class: Class, bytes: &[u8]) -> usize
+    ensures { result ≡ prefix_len (is_ascii_in class) bytes.now }
+{
+    match class {
+        Class::Continuing => continuing_run(bytes),
+        Class::InLine => in_line_run(bytes),
+        Class::Blank => run_of(Class::Blank, bytes),
+        Class::NoQuote => run_of(Class::NoQuote, bytes),
+        Class::Digit => run_of(Class::Digit, bytes),
+        Class::Octal => run_of(Class::Octal, bytes),
+        Class::Hexadecimal => run_of(Class::Hexadecimal, bytes),
+    }
+}
+
+// Whether a text begins with a character beyond ASCII, by its bytes.
+#[inline]
+fn begins_wide(bytes: &[u8]) -> bool
+    ensures { result ≡ first_is (λ byte. nat_le 128 byte) bytes.now }
+{
+    match bytes {
+        [byte, ..] => *byte >= 0x80,
+        [] => false,
+    }
+}
+
+// The run behind an ASCII run: none, unless it goes on with a character beyond ASCII.
+#[inline(always)]
+fn wide_run<'a>(class: Class, text: &'a str) -> Cut<'a>
+    requires { first_is (is_ascii_in class) text.now ≡ false }
+    ensures length { result.length ≡ prefix_len (class_test class) (chars text.now) }
+    ensures cut { IsCut text.now result }
+{
+    if begins_wide(text.as_bytes()) {
+        run_of_at_most(text.len(), class, text)
+    } else {
+        Cut {
+            length: 0,
+            rest: text,
+        }
+    }
+}
+
+/// The longest run of characters of the class at the front of a text. As far as they are ASCII they are told by their bytes.
 #[inline(always)]
 pub fn run<'a>(class: Class, text: &'a str) -> Cut<'a>
     ensures length { result.length ≡ prefix_len (class_test class) (chars text.now) }
     ensures cut { IsCut text.now result }
 {
-    run_of_at_most(text.len(), class, text)
+    let count = ascii_run(class, text.as_bytes());
+    let rest = behind_ascii(text, count);
+    let more = wide_run(class, rest);
+    Cut {
+        length: count + more.length,
+        rest: more.rest,
+    }
 }
 
 /// What follows the longest run of characters of the class.

@@ -1,6 +1,9 @@
 //! Texts as lists of characters.
 
-ghost use Rattle.std.specs.Prelude.{◌≡◌, ◌≤◌, ◌<◌, ◌+◌, ◌^◌, [], ◌∷◌, chars, length, take, drop, slice_get, MatchOption, IfSome, is_some, ◌==◌, encode_utf8_all};
+ghost use Rattle.std.specs.Prelude.{◌≡◌, ◌≤◌, ◌<◌, ◌+◌, ◌^◌, [], ◌∷◌, ◌++◌, chars, length, take, drop, slice_get, MatchOption, IfSome, is_some, ◌==◌, encode_utf8_all};
+ghost use Rattle.std.specs.Char.{is_ascii};
+ghost use Rattle.std.specs.List.{prefix_len};
+ghost use Rattle.cxx_base.specs.declared.limits.TheConstants.{MAX_SOURCE};
 ghost use Rattle.cxx_tokens.specs.Characters as spec;
 ghost use Rattle.cxx_tokens.specs.Cuts.{IsCut};
 
@@ -13,15 +16,31 @@ pub struct Cut<'a> {
     pub rest: &'a str,
 }
 
-/// The first character of a text, and what follows it.
-#[inline]
-pub fn split_first(text: &str) -> Option<(char, &str)>
+// The first character of a text, and what follows it, by the decoder of all characters.
+fn split_wide(text: &str) -> Option<(char, &str)>
     ensures { MatchOption result (chars text.now ≡ []) (λ found. chars text.now ≡ found.0 ∷ chars found.1.now) }
 {
     let mut characters = text.chars();
     match characters.next() {
         Some(first) => Some((first, characters.as_str())),
         None => None,
+    }
+}
+
+/// The first character of a text, and what follows it. An ASCII one is told by its byte.
+#[inline(always)]
+pub fn split_first(text: &str) -> Option<(char, &str)>
+    ensures { MatchOption result (chars text.now ≡ []) (λ found. chars text.now ≡ found.0 ∷ chars found.1.now) }
+{
+    let bytes = text.as_bytes();
+    if bytes.is_empty() {
+        return None;
+    }
+    let byte = bytes[0];
+    if byte < 0x80 {
+        Some((char::from(byte), behind_ascii(text, 1)))
+    } else {
+        split_wide(text)
     }
 }
 
@@ -67,6 +86,16 @@ pub fn strip<'a>(front: &[u8], text: &'a str) -> Option<&'a str>
         }
     }
     Some(rest)
+}
+
+/// What follows the first bytes of a text, which are ASCII, so each of them is a character.
+#[inline(always)]
+pub fn behind_ascii(text: &str, count: usize) -> &str
+    requires { count ≤ prefix_len is_ascii text.now }
+    ensures characters { chars text.now ≡ take count text.now ++ chars result.now }
+    ensures bytes { result.now ≡ drop count text.now }
+{
+    &text[count..]
 }
 
 /// The first characters of a text, which stand before its rest.
@@ -124,7 +153,7 @@ pub fn after(place: Place, text: &str, count: usize) -> Place
 
 /// The place just past a text.
 pub fn end_of(text: &str) -> Place
-    requires { length (chars text.now) ≤ 4194304 }
+    requires { length (chars text.now) ≤ MAX_SOURCE }
     ensures { result ≡ spec.after_all spec.start (chars text.now) }
 {
     let mut next = Place::START;

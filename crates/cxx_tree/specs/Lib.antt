@@ -1,5 +1,3 @@
-pub mod Laws
-pub mod Lists
-pub mod Names
-pub mod Same
+pub mod MoreSpans
 pub mod Spans
+pub mod Stands

@@ -4,7 +4,7 @@ use crate::expr::{ArgTrees, BracedTree, Expr, SpliceTree, TypeTree};
 use crate::identifier::{Identifier, NameTree};
 use crate::stmt::{BodyTree, BoundTree, InitTree};
 use containers::{Boxed, Items};
-use cxx_base::{Bytes, Span};
+use cxx_base::{Place, Span};
 
 /// A source text ([basic.link]).
 pub struct Unit {
@@ -130,11 +130,11 @@ impl Drop for AliasedTree {
     }
 }
 
-/// `static_assert ( expr , text )` ([dcl.pre])
+/// `static_assert ( expr , text )` ([dcl.pre]), and where the text stands, if there is one. What it says is never asked.
 pub struct AssertTree {
     pub span: Span,
     pub condition: Boxed<Expr>,
-    pub message: Option<Bytes>,
+    pub message: Option<Span>,
 }
 
 impl Drop for AssertTree {
@@ -148,12 +148,14 @@ impl Drop for AssertTree {
 }
 
 /// `consteval` and a body (P3289R1).
+#[cycle(statement)]
 pub struct BlockTree {
     pub span: Span,
     pub body: BodyTree,
 }
 
 impl Drop for BlockTree {
+    #[cycle(dropping_statement)]
     fn drop(self) {
         let BlockTree { span: _, body: _ } = self;
     }
@@ -199,6 +201,7 @@ impl Drop for VariableTree {
 }
 
 /// A function ([dcl.fct]), or a member function. Without a body it is declared alone. Only a member function is const.
+#[cycle(statement)]
 pub struct FunctionTree {
     pub span: Span,
     pub specifiers: Specifiers,
@@ -211,6 +214,7 @@ pub struct FunctionTree {
 }
 
 impl Drop for FunctionTree {
+    #[cycle(dropping_statement)]
     fn drop(self) {
         let FunctionTree {
             span: _,
@@ -228,7 +232,7 @@ impl Drop for FunctionTree {
 /// A parameter, which need not have a name.
 pub struct ParameterTree {
     pub span: Span,
-    pub of_type: TypeTree,
+    pub of_type: Boxed<TypeTree>,
     pub name: Option<Identifier>,
 }
 
@@ -296,14 +300,14 @@ pub enum Access {
 }
 
 /// A class ([class]).
-#[cycle(class)]
+#[cycle(statement)]
 pub enum ClassTree {
     Declared(Span, ClassKey, Identifier),
     Defined(Span, ClassKey, Identifier, Items<BaseTree>, Items<Member>),
 }
 
 impl Drop for ClassTree {
-    #[cycle(dropping_class)]
+    #[cycle(dropping_statement)]
     fn drop(self) {
         match self {
             ClassTree::Declared(_, _, _) => {}
@@ -348,7 +352,7 @@ impl Drop for BasedTree {
 }
 
 /// What stands in the braces of a class ([class.mem]). As of a statement, the large parts are boxed within.
-#[cycle(class)]
+#[cycle(statement)]
 pub enum Member {
     Access(Span, Access),
     /// `;`
@@ -365,7 +369,7 @@ pub enum Member {
 }
 
 impl Drop for Member {
-    #[cycle(dropping_class)]
+    #[cycle(dropping_statement)]
     fn drop(self) {
         match self {
             Member::Access(_, _) => {}
@@ -384,6 +388,7 @@ impl Drop for Member {
 }
 
 /// A constructor ([class.ctor]). Its name is that of its class.
+#[cycle(statement)]
 pub struct ConstructorTree {
     pub span: Span,
     pub is_explicit: bool,
@@ -396,6 +401,7 @@ pub struct ConstructorTree {
 }
 
 impl Drop for ConstructorTree {
+    #[cycle(dropping_statement)]
     fn drop(self) {
         let ConstructorTree {
             span: _,
@@ -442,20 +448,25 @@ impl Drop for MemberInitValue {
     }
 }
 
-/// A destructor ([class.dtor]). Its name is that of its class.
+/// A destructor ([class.dtor]). Its name is that of its class, and stands behind a `~`, with which the declared name begins.
+#[cycle(statement)]
 pub struct DestructorTree {
     pub span: Span,
     pub specifiers: Specifiers,
+    /// The place of `~`.
+    pub tilde: Place,
     pub name: Identifier,
     pub is_noexcept: bool,
     pub body: BodyTree,
 }
 
 impl Drop for DestructorTree {
+    #[cycle(dropping_statement)]
     fn drop(self) {
         let DestructorTree {
             span: _,
             specifiers: _,
+            tilde: _,
             name: _,
             is_noexcept: _,
             body: _,

@@ -4,19 +4,16 @@
 //! as deep as its brackets and prefix operators nest, and not as long as its text.
 #![tactic(auto)]
 
-mod cxx_type;
 mod decl;
 mod expr;
 mod identifier;
-mod laws;
 mod literal;
 mod operator;
-mod same;
 mod span;
 mod stmt;
 mod types;
 
-pub use cxx_type::{BasicType, CxxType, Layer};
+pub use cxx_type::{BasicType, CxxType, Layer, Layers};
 pub use decl::{
     Access, AliasTree, AliasedTree, AssertTree, BaseTree, BasedTree, BlockTree, ClassKey,
     ClassTree, ConstructorTree, Decl, DestructorTree, EnumTree, EnumeratorTree, Evaluated,
@@ -28,7 +25,6 @@ pub use expr::{
     Suffix, TypeTree,
 };
 pub use identifier::{Identifier, NameTree};
-pub use laws::{parts_decide, same_is_an_equivalence};
 pub use literal::IntegerLiteral;
 pub use operator::{BinaryOp, UnaryOp};
 pub use stmt::{

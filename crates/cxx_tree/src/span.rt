@@ -3,6 +3,9 @@
 ghost use Rattle.std.specs.Prelude.{◌≡◌};
 ghost use Rattle.cxx_tree.specs.Spans.{span_of, span_of_arg, span_of_args, span_of_basic, span_of_braced, span_of_designator, span_of_init, span_of_operation, span_of_splice, span_of_suffix, span_of_type};
 
+mod decl;
+mod stmt;
+
 use crate::expr::{
     ArgTree, ArgTrees, BasicTree, BracedTree, Designator, Expr, NewInit, Operation, SpliceTree,
     Suffix, TypeTree,

@@ -1,6 +1,6 @@
 //! Statements.
 
-use crate::decl::{AliasTree, AssertTree};
+use crate::decl::{AliasTree, AssertTree, BlockTree, ClassTree};
 use crate::expr::{ArgTree, BracedTree, Expr, TypeTree};
 use crate::identifier::Identifier;
 use containers::{Boxed, Items};
@@ -15,6 +15,10 @@ pub enum Stmt {
     Empty(Span),
     Assert(AssertTree),
     Alias(AliasTree),
+    /// A class in the body of a function.
+    Class(Boxed<ClassTree>),
+    /// A block in the body of a function.
+    Block(BlockTree),
     Local(LocalTree),
     Assign(AssignTree),
     Expr(Span, Expr),
@@ -38,6 +42,8 @@ impl Drop for Stmt {
             Stmt::Empty(_) => {}
             Stmt::Assert(_) => {}
             Stmt::Alias(_) => {}
+            Stmt::Class(_) => {}
+            Stmt::Block(_) => {}
             Stmt::Local(_) => {}
             Stmt::Assign(_) => {}
             Stmt::Expr(_, _) => {}

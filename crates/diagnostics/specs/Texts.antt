@@ -1,8 +1,9 @@
 -- The names and the texts of refusals.
-use Rattle.std.specs.Prelude.{ℕ, [], ◌∷◌, get_or, codes}
+use Rattle.std.specs.Prelude.{ℕ, [], ◌∷◌, ◌++◌, get_or, codes, decimal}
 use Rattle.cxx_base.specs.Texts.{Text}
-use Rattle.cxx_base.specs.declared.refusal.Code.{Code}
-use Rattle.cxx_base.specs.declared.refusal.Code.TheVariants.{L1, L2, L3, L4, L5, L6, S1, S2, P1, N1, N2, N3, N4, N5, T1, T2, T3, T4, T5, T6, T7, T8, T9, T10, V1, V2, V3, V4, V5, V6, V7, V8, V9, V10, V11, V12, V13, V14, V15, M1, M2, M3, M4, M5, M6, M7, R1}
+use Rattle.cxx_base.specs.declared.limits.TheConstants.{MAX_SOURCE, MAX_NESTING, MAX_PIECES, MAX_UNITS}
+use Rattle.cxx_base.specs.declared.code.Code.{Code}
+use Rattle.cxx_base.specs.declared.code.Code.TheVariants.{L1, L2, L3, L4, L5, L6, S1, S2, P1, P2, N1, N2, N3, N4, N5, T1, T2, T3, T4, T5, T6, T7, T8, T9, T10, V1, V2, V3, V4, V5, V6, V7, V8, V9, V10, V11, V12, V13, V14, V15, M1, M2, M3, M4, M5, M6, M7, R1}
 
 -- the letter and the number of a code
 abbrev pub code_name : Code → Text
@@ -15,6 +16,7 @@ code_name L6 = codes "L6"
 code_name S1 = codes "S1"
 code_name S2 = codes "S2"
 code_name P1 = codes "P1"
+code_name P2 = codes "P2"
 code_name N1 = codes "N1"
 code_name N2 = codes "N2"
 code_name N3 = codes "N3"
@@ -73,10 +75,11 @@ text L2 detail = codes "no token begins here"
 text L3 detail = codes "integer literal is too large"
 text L4 detail = codes "literal or comment does not end"
 text L5 detail = codes "identifier is too long or not in normalization form C"
-text L6 detail = codes "source is longer than 4194304 bytes"
+text L6 detail = codes "source is longer than " ++ decimal MAX_SOURCE ++ codes " bytes"
 text S1 detail = codes "syntax error"
-text S2 detail = codes "nesting is deeper than 256"
-text P1 detail = codes "more than 65536 pieces"
+text S2 detail = codes "nesting is deeper than " ++ decimal MAX_NESTING
+text P1 detail = codes "more than " ++ decimal MAX_PIECES ++ codes " pieces"
+text P2 detail = codes "more than " ++ decimal MAX_UNITS ++ codes " units"
 text N1 detail = codes "name is not declared"
 text N2 detail = codes "name is declared twice"
 text N3 detail = codes "name is of another kind"

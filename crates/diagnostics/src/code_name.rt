@@ -19,6 +19,7 @@ pub fn name(code: Code) -> &'static str
         Code::S1 => "S1",
         Code::S2 => "S2",
         Code::P1 => "P1",
+        Code::P2 => "P2",
         Code::N1 => "N1",
         Code::N2 => "N2",
         Code::N3 => "N3",

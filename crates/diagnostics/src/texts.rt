@@ -6,7 +6,8 @@ ghost use Rattle.diagnostics.specs.Texts as spec;
 use cxx_base::{Code, Refusal};
 
 /// What the report says of a refusal behind its code. The text of `R1` begins with a space, since the line has the
-/// piece that is refused before it.
+/// piece that is refused before it. The numbers are those of the limits.
+#[tactic(auto, using(crate::proofs::LimitTexts::source_text, crate::proofs::LimitTexts::nesting_text, crate::proofs::LimitTexts::pieces_text, crate::proofs::LimitTexts::units_text))]
 pub fn text(refusal: &Refusal) -> &'static str
     ensures { result.now ≡ spec.text refusal.now.code refusal.now.detail }
 {
@@ -20,6 +21,7 @@ pub fn text(refusal: &Refusal) -> &'static str
         Code::S1 => "syntax error",
         Code::S2 => "nesting is deeper than 256",
         Code::P1 => "more than 65536 pieces",
+        Code::P2 => "more than 256 units",
         Code::N1 => "name is not declared",
         Code::N2 => "name is declared twice",
         Code::N3 => "name is of another kind",

@@ -6,7 +6,6 @@ mod expr_forms;
 mod list_forms;
 mod parts;
 mod piece;
-mod plain;
 mod print;
 mod same;
 mod shown;
@@ -14,6 +13,5 @@ mod spans;
 mod symbols;
 
 pub use parts::{Part, part_named};
-pub use plain::plain_same;
 pub use print::Show;
 pub use shown::Shown;

@@ -10,6 +10,7 @@ use crate::spans::{in_arguments, in_expression, in_list, in_name, in_type};
 use cxx_base::Span;
 use cxx_tree::{ArgTrees, BracedTree, Expr, NameTree, SpliceTree, TypeTree};
 use std::alloc::AllocError;
+use tree_same::same_splice;
 
 /// A tree of a rule that is read by itself.
 pub enum Shown {
@@ -70,7 +71,7 @@ impl Shown {
             (Shown::Type(x), Shown::Type(y)) => same_in_types(part, x, y),
             (Shown::Braced(x), Shown::Braced(y)) => same_in_lists(part, x, y),
             (Shown::Name(x), Shown::Name(y)) => same_in_names(part, x, y),
-            (Shown::Splice(x), Shown::Splice(y)) => x.same(y),
+            (Shown::Splice(x), Shown::Splice(y)) => same_splice(x, y),
             (Shown::Args(x), Shown::Args(y)) => same_in_arguments(part, x, y),
             _ => false,
         }

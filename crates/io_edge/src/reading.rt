@@ -2,6 +2,7 @@
 
 ghost use Rattle.std.specs.Prelude.{◌≡◌, ◌+◌, ◌-◌, ◌<◌, ◌≤◌, length, IfOk, IfSome, IsErrOf, OnOk};
 ghost use Rattle.std.specs.Io.KnownBytes.{Consumes, IsAtEnd};
+ghost use Rattle.cxx_base.specs.declared.limits.TheConstants.{MAX_SOURCE};
 ghost use Rattle.io_edge.specs.Edge.{Drops, LosesPrefix, Rose, TellsOn};
 ghost use Rattle.io_edge.specs.Gather.{Gathers, LosesCount};
 
@@ -30,7 +31,7 @@ const PIECE: usize = 65536;
 /// Reads all that is left, at most `cap` bytes. Of a longer source one byte more is taken, and no
 /// other. After an error the bytes that were read are gone.
 pub fn read_all<S: Source>(alloc: Global, source: &mut S, cap: usize) -> Result<Bytes, ReadAll>
-    requires { cap ≤ 4194304 }
+    requires { cap ≤ MAX_SOURCE }
     // Read whole.
     ensures whole { IfOk result (λ bytes. IfSome (S.left source.old) (λ xs. bytes ≡ xs)) }
     ensures emptied { OnOk result (IsAtEnd (S.left source.new)) }
@@ -63,7 +64,7 @@ fn read_through<S: Source>(
     buffer: &mut [u8],
     cap: usize,
 ) -> Result<Bytes, ReadAll>
-    requires limit { cap ≤ 4194304 }
+    requires limit { cap ≤ MAX_SOURCE }
     requires room { 0 < length buffer.old }
     ensures whole { IfOk result (λ bytes. IfSome (S.left source.old) (λ xs. bytes ≡ xs)) }
     ensures emptied { OnOk result (IsAtEnd (S.left source.new)) }
@@ -93,7 +94,7 @@ fn read_pieces<S: Source>(
     bytes: &mut Bytes,
     cap: usize,
 ) -> Result<(), ReadAll>
-    requires limit { cap ≤ 4194304 }
+    requires limit { cap ≤ MAX_SOURCE }
     requires room { 0 < length buffer.old }
     requires empty { length bytes.old ≡ 0 }
     ensures gathers { OnOk result (Consumes (S.left source.old) (S.left source.new) bytes.new) }
@@ -123,7 +124,7 @@ fn read_piece<S: Source>(
     bytes: &mut Bytes,
     cap: usize,
 ) -> Result<usize, ReadAll>
-    requires limit { cap ≤ 4194304 }
+    requires limit { cap ≤ MAX_SOURCE }
     requires room { 0 < length buffer.old }
     requires within { length bytes.old ≤ cap }
     ensures gathers { OnOk result

@@ -2,7 +2,6 @@
 use Rattle.std.proofs.Common.{◌≡◌, ℕ, ◌+◌, ◌≤◌, Bool, true, false, ◌∷◌, [], Option, Some, None, refl, inl, inr, arith}
 use Rattle.std.proofs.lemmas.Bool.{ne_eqb}
 use Rattle.cxx_tree.specs.declared.identifier.Identifier.{Identifier as IdentifierTree}
-use Rattle.cxx_tree.specs.declared.decl.Member.{Member}
 use Rattle.cxx_tokens.specs.declared.token.Tokens.{Tokens}
 use Rattle.cxx_tokens.specs.declared.mark.TheConstants.{EQUAL, LEFT_BRACE, RIGHT_BRACE, SEMICOLON, SCOPE}
 use Rattle.cxx_tokens.specs.declared.keyword.TheConstants.{NAMESPACE}
@@ -12,12 +11,15 @@ use Rattle.cxx_reading.specs.Reading.{Tree, No, Nothing, Rule, kind, left, is_wo
 use Rattle.cxx_reading.proofs.Starts.{no_word_at, no_punctuator, no_punctuator_at, is_that_punctuator, word_there, longer_nothing}
 use Rattle.cxx_reading.proofs.Turns.{turns_none}
 use Rattle.cxx_grammar.specs.Names.{part, parts, parts_on}
-use Rattle.cxx_grammar.specs.Declarations.{namespace_alias, namespace_decl, decl, declaration, read_members}
+use Rattle.cxx_grammar.specs.Declarations.{namespace_alias}
+use Rattle.cxx_grammar.specs.Classes.{namespace_decl, decl}
+use Rattle.cxx_grammar.specs.Nests.{Nests}
+use Rattle.cxx_grammar.specs.Nesting.{read_nests, declaration}
 use Rattle.cxx_grammar.specs.Units.{namespace_head, close_item, decl_item, empty_item, item}
 use Rattle.parse_decl.specs.Joined.{namespace_item}
-use Rattle.parse_decl.proofs.Tokens.{identifier_or_none}
-use Rattle.parse_decl.proofs.Arms.{decl_namespace}
-use Rattle.parse_decl.proofs.Nothing.{no_namespace_decl, no_alias_decl, no_class_decl, no_enum_decl, no_function_declared, no_variable_declared, no_assert_decl, no_block_decl}
+use Rattle.parse_class.proofs.Tokens.{identifier_or_none}
+use Rattle.parse_class.proofs.Arms.{decl_namespace}
+use Rattle.parse_class.proofs.Nothing.{no_namespace_decl, no_alias_decl, no_class_decl, no_enum_decl, no_function_declared, no_variable_declared, no_assert_decl, no_block_decl}
 
 module _ (tokens : Tokens) (i : ℕ) where
   no_namespace_head : (k : Option Seen) → kind tokens i ≡ k → is_word NAMESPACE k ≡ false → namespace_head tokens i ≡ No Nothing
@@ -37,11 +39,11 @@ module _ (tokens : Tokens) (i : ℕ) where
 
   no_decl_at_brace : kind tokens i ≡ Some (Punctuator RIGHT_BRACE) → decl_item tokens i ≡ No Nothing
   unfolding decl_item declaration decl
-  no_decl_at_brace e = simp (no_namespace_decl tokens i (Some (Punctuator RIGHT_BRACE)) e 0 refl, no_alias_decl tokens i (Some (Punctuator RIGHT_BRACE)) e 0 refl, no_class_decl tokens i (Some (Punctuator RIGHT_BRACE)) e 0 (read_members tokens 1) refl, no_enum_decl tokens i (Some (Punctuator RIGHT_BRACE)) e 0 refl, no_function_declared tokens i (Some (Punctuator RIGHT_BRACE)) e 0 low refl refl, no_variable_declared tokens i (Some (Punctuator RIGHT_BRACE)) e 0 low refl refl, no_assert_decl tokens i (Some (Punctuator RIGHT_BRACE)) e 0 refl, no_block_decl tokens i (Some (Punctuator RIGHT_BRACE)) e 0 refl)
+  no_decl_at_brace e = simp (no_namespace_decl tokens i (Some (Punctuator RIGHT_BRACE)) e 0 (read_nests tokens 1) refl, no_alias_decl tokens i (Some (Punctuator RIGHT_BRACE)) e 0 (read_nests tokens 1) refl, no_class_decl tokens i (Some (Punctuator RIGHT_BRACE)) e 0 (read_nests tokens 1) refl, no_enum_decl tokens i (Some (Punctuator RIGHT_BRACE)) e 0 (read_nests tokens 1) refl, no_function_declared tokens i (Some (Punctuator RIGHT_BRACE)) e 0 (read_nests tokens 1) low refl refl, no_variable_declared tokens i (Some (Punctuator RIGHT_BRACE)) e 0 (read_nests tokens 1) low refl refl, no_assert_decl tokens i (Some (Punctuator RIGHT_BRACE)) e 0 (read_nests tokens 1) refl, no_block_decl tokens i (Some (Punctuator RIGHT_BRACE)) e 0 (read_nests tokens 1) refl)
 
   no_decl_at_semicolon : kind tokens i ≡ Some (Punctuator SEMICOLON) → decl_item tokens i ≡ No Nothing
   unfolding decl_item declaration decl
-  no_decl_at_semicolon e = simp (no_namespace_decl tokens i (Some (Punctuator SEMICOLON)) e 0 refl, no_alias_decl tokens i (Some (Punctuator SEMICOLON)) e 0 refl, no_class_decl tokens i (Some (Punctuator SEMICOLON)) e 0 (read_members tokens 1) refl, no_enum_decl tokens i (Some (Punctuator SEMICOLON)) e 0 refl, no_function_declared tokens i (Some (Punctuator SEMICOLON)) e 0 low refl refl, no_variable_declared tokens i (Some (Punctuator SEMICOLON)) e 0 low refl refl, no_assert_decl tokens i (Some (Punctuator SEMICOLON)) e 0 refl, no_block_decl tokens i (Some (Punctuator SEMICOLON)) e 0 refl)
+  no_decl_at_semicolon e = simp (no_namespace_decl tokens i (Some (Punctuator SEMICOLON)) e 0 (read_nests tokens 1) refl, no_alias_decl tokens i (Some (Punctuator SEMICOLON)) e 0 (read_nests tokens 1) refl, no_class_decl tokens i (Some (Punctuator SEMICOLON)) e 0 (read_nests tokens 1) refl, no_enum_decl tokens i (Some (Punctuator SEMICOLON)) e 0 (read_nests tokens 1) refl, no_function_declared tokens i (Some (Punctuator SEMICOLON)) e 0 (read_nests tokens 1) low refl refl, no_variable_declared tokens i (Some (Punctuator SEMICOLON)) e 0 (read_nests tokens 1) low refl refl, no_assert_decl tokens i (Some (Punctuator SEMICOLON)) e 0 (read_nests tokens 1) refl, no_block_decl tokens i (Some (Punctuator SEMICOLON)) e 0 (read_nests tokens 1) refl)
 
   -- ---- `namespace` and a name: an alias where "=" follows, and else a head
 
@@ -67,9 +69,9 @@ module _ (tokens : Tokens) (i : ℕ) where
     not_alias : is_punctuator EQUAL (kind tokens (i + 2)) ≡ false → decl_item tokens i ≡ No Nothing
     unfolding decl_item declaration namespace_decl namespace_alias
     not_alias h = elim (identifier_or_none tokens (i + 1)) [
-      | inl none ↦ simp (decl_namespace tokens 0 low (read_members tokens 1) i e, word_there tokens i NAMESPACE word_is, none)
+      | inl none ↦ simp (decl_namespace tokens 0 low (read_nests tokens 1) i word_is, word_there tokens i NAMESPACE word_is, none)
       | inr x ↦ let here : is_punctuator EQUAL (kind tokens (i + 1 + 1)) ≡ false = rw behind h in
-          simp (decl_namespace tokens 0 low (read_members tokens 1) i e, word_there tokens i NAMESPACE word_is, x.1, no_punctuator tokens (i + 1 + 1) EQUAL here)
+          simp (decl_namespace tokens 0 low (read_nests tokens 1) i word_is, word_there tokens i NAMESPACE word_is, x.1, no_punctuator tokens (i + 1 + 1) EQUAL here)
     ]
 
     by_mark : (b : Bool) → is_punctuator EQUAL (kind tokens (i + 2)) ≡ b → item tokens i ≡ namespace_item tokens i

@@ -1,11 +1,2 @@
-mod Tokens
-mod Words
-mod Declarators
-mod Joins
-mod Nothing
-mod Blocks
-mod ClassForms
-mod Arms
-mod Levels
 mod ItemForms
 mod UnitTurns

@@ -1,14 +1,11 @@
-//! The parser of declarations and of whole units: each gives exactly what the grammar says.
+//! The parser of whole source texts, and the refusal that decides where one does not derive a unit. It ties the parsers of what
+//! nests together, over the levels.
 #![tactic(auto)]
 
-mod classes;
-mod declaration;
-mod declarator;
-mod member;
-mod named;
-mod special;
+mod levels;
 mod syntax_fault;
 mod units;
 
+pub use levels::body;
 pub use syntax_fault::SyntaxFault;
 pub use units::unit;

@@ -1,92 +1,36 @@
 //! Whole source texts ([basic.link]).
 
 ghost use Rattle.std.specs.Prelude.{◌≡◌, ◌+◌, ◌<◌, ◌^◌};
-ghost use Rattle.cxx_grammar.specs.Declarations as declarations;
 ghost use Rattle.cxx_grammar.specs.Units as spec;
 ghost use Rattle.cxx_reading.specs.Reading.{Gives};
 ghost use Rattle.parse_decl.specs.Answers.{Says};
 ghost use Rattle.parse_decl.specs.Joined as joined;
 
-use crate::classes::{class, sees_ahead};
-use crate::declaration::{
-    alias_decl, assert_decl, block_decl, declared, enum_decl, namespace_decl,
-};
+use crate::levels::declaration;
 use crate::syntax_fault::SyntaxFault;
 use containers::{Boxed, Items};
-use cxx_reading::{Fault, Seen, expect, expect_word, identifier, kind_at, single, span};
+use cxx_reading::{ExprFault, Seen, expect, expect_word, identifier, kind_at, single, span};
 use cxx_tokens::Tokens;
-use cxx_tokens::keyword::{CLASS, CONSTEVAL, ENUM, NAMESPACE, STATIC_ASSERT, STRUCT, USING};
+use cxx_tokens::keyword::NAMESPACE;
 use cxx_tokens::mark::{EQUAL, LEFT_BRACE, RIGHT_BRACE, SEMICOLON};
-use cxx_tree::{Decl, Item, Unit};
+use cxx_tree::{Item, Unit};
+use parse_class::sees_ahead;
 use parse_type::parts;
 use std::alloc::Global;
 
-#[tactic(auto, unfolding(cxx_grammar::specs::Declarations::class_decl))]
-fn class_decl(alloc: Global, tokens: &Tokens, start: u32) -> Result<(Decl, u32), Fault>
-    ensures { Gives (declarations.class_decl tokens.now 0 (declarations.read_members tokens.now 1) start) result }
-{
-    let (x, end) = class(alloc, tokens, start, 0)?;
-    Ok((Decl::Class(x), end))
-}
-
-#[tactic(auto, unfolding(crate::specs::Joined::consteval_decl))]
-fn consteval_decl(alloc: Global, tokens: &Tokens, start: u32) -> Result<(Decl, u32), Fault>
-    ensures { Gives (joined.consteval_decl tokens.now 0 start) result }
-{
-    if sees_ahead(tokens, LEFT_BRACE, start, 1) {
-        block_decl(alloc, tokens, start, 0)
-    } else {
-        declared(alloc, tokens, start, 0)
-    }
-}
-
-// A declaration of a unit, which stands at level 0.
-#[tactic(auto, using(crate::proofs::Arms::decl_arms), unfolding(cxx_grammar::specs::Declarations::declaration))]
-fn declaration(alloc: Global, tokens: &Tokens, start: u32) -> Result<(Decl, u32), Fault>
-    ensures { Gives (declarations.declaration tokens.now start) result }
-{
-    match kind_at(tokens, start) {
-        Some(Seen::Word(word)) => {
-            if word == NAMESPACE {
-                namespace_decl(alloc, tokens, start, 0)
-            } else if word == USING {
-                alias_decl(alloc, tokens, start, 0)
-            } else if word == STRUCT {
-                class_decl(alloc, tokens, start)
-            } else if word == CLASS {
-                class_decl(alloc, tokens, start)
-            } else if word == ENUM {
-                enum_decl(alloc, tokens, start, 0)
-            } else if word == STATIC_ASSERT {
-                assert_decl(alloc, tokens, start, 0)
-            } else if word == CONSTEVAL {
-                consteval_decl(alloc, tokens, start)
-            } else {
-                declared(alloc, tokens, start, 0)
-            }
-        }
-        Some(Seen::Punctuator(_)) => declared(alloc, tokens, start, 0),
-        Some(Seen::Identifier) => declared(alloc, tokens, start, 0),
-        Some(Seen::Integer) => declared(alloc, tokens, start, 0),
-        Some(Seen::Character) => declared(alloc, tokens, start, 0),
-        Some(Seen::Text) => declared(alloc, tokens, start, 0),
-        None => declared(alloc, tokens, start, 0),
-    }
-}
-
 #[tactic(auto, unfolding(cxx_grammar::specs::Units::namespace_head))]
-fn namespace_head(alloc: Global, tokens: &Tokens, start: u32) -> Result<(Item, u32), Fault>
+fn namespace_head(alloc: Global, tokens: &Tokens, start: u32) -> Result<(Item, u32), ExprFault>
     ensures { Gives (spec.namespace_head tokens.now start) result }
 {
     let at = expect_word(tokens, NAMESPACE, start)?;
     let (first, at) = identifier(tokens, at)?;
-    let (names, at) = parts(tokens, single(alloc, first)?, at)?;
+    let (names, at) = parts(alloc, tokens, single(alloc, first)?, at)?;
     let end = expect(tokens, LEFT_BRACE, at)?;
     Ok((Item::NamespaceHead(span(tokens, start, end), names), end))
 }
 
 #[tactic(auto, unfolding(cxx_grammar::specs::Units::close_item))]
-fn close_item(tokens: &Tokens, start: u32) -> Result<(Item, u32), Fault>
+fn close_item(tokens: &Tokens, start: u32) -> Result<(Item, u32), ExprFault>
     ensures { Gives (spec.close_item tokens.now start) result }
 {
     let end = expect(tokens, RIGHT_BRACE, start)?;
@@ -94,7 +38,7 @@ fn close_item(tokens: &Tokens, start: u32) -> Result<(Item, u32), Fault>
 }
 
 #[tactic(auto, unfolding(cxx_grammar::specs::Units::decl_item))]
-fn decl_item(alloc: Global, tokens: &Tokens, start: u32) -> Result<(Item, u32), Fault>
+fn decl_item(alloc: Global, tokens: &Tokens, start: u32) -> Result<(Item, u32), ExprFault>
     ensures { Gives (spec.decl_item tokens.now start) result }
 {
     let (x, end) = declaration(alloc, tokens, start)?;
@@ -102,7 +46,7 @@ fn decl_item(alloc: Global, tokens: &Tokens, start: u32) -> Result<(Item, u32), 
 }
 
 #[tactic(auto, unfolding(cxx_grammar::specs::Units::empty_item))]
-fn empty_item(tokens: &Tokens, start: u32) -> Result<(Item, u32), Fault>
+fn empty_item(tokens: &Tokens, start: u32) -> Result<(Item, u32), ExprFault>
     ensures { Gives (spec.empty_item tokens.now start) result }
 {
     let end = expect(tokens, SEMICOLON, start)?;
@@ -110,7 +54,7 @@ fn empty_item(tokens: &Tokens, start: u32) -> Result<(Item, u32), Fault>
 }
 
 #[tactic(auto, unfolding(crate::specs::Joined::namespace_item))]
-fn namespace_item(alloc: Global, tokens: &Tokens, start: u32) -> Result<(Item, u32), Fault>
+fn namespace_item(alloc: Global, tokens: &Tokens, start: u32) -> Result<(Item, u32), ExprFault>
     ensures { Gives (joined.namespace_item tokens.now start) result }
 {
     if sees_ahead(tokens, EQUAL, start, 2) {
@@ -121,7 +65,7 @@ fn namespace_item(alloc: Global, tokens: &Tokens, start: u32) -> Result<(Item, u
 }
 
 #[tactic(auto, using(crate::proofs::ItemForms::item_arms))]
-fn item(alloc: Global, tokens: &Tokens, start: u32) -> Result<(Item, u32), Fault>
+fn item(alloc: Global, tokens: &Tokens, start: u32) -> Result<(Item, u32), ExprFault>
     ensures { Gives (spec.item tokens.now start) result }
 {
     match kind_at(tokens, start) {
@@ -208,9 +152,9 @@ pub fn unit(alloc: Global, tokens: &Tokens) -> Result<Unit, SyntaxFault>
                 items.push(x)?;
                 at = after;
             }
-            Err(Fault::Syntax) => return Err(SyntaxFault::S1(span(tokens, at, at).place)),
-            Err(Fault::Deep) => return Err(SyntaxFault::S2(span(tokens, at, at).place)),
-            Err(Fault::Memory) => return Err(SyntaxFault::Memory),
+            Err(ExprFault::S1) => return Err(SyntaxFault::S1(span(tokens, at, at).place)),
+            Err(ExprFault::S2) => return Err(SyntaxFault::S2(span(tokens, at, at).place)),
+            Err(ExprFault::Memory) => return Err(SyntaxFault::Memory),
         }
     }
     at_end(tokens, heads, items, at)

@@ -4,17 +4,15 @@
 //! to the readers, and count the levels.
 #![tactic(auto)]
 
-mod chain;
 mod choice;
 mod made;
 mod new;
 mod operator;
-mod reader;
 mod sized;
 mod top;
 mod unary;
 
-pub use cxx_reading::Fault;
+pub use cxx_reading::ExprFault;
 pub use top::{
     args_at, braced_at, expression, expression_behind, name_at, splice_at, type_at, unary_at,
 };

@@ -1,14 +1,14 @@
 //! Nodes of expressions.
 
 ghost use Rattle.std.specs.Prelude.{◌≡◌, IfOk};
-ghost use Rattle.cxx_grammar.specs.Expressions.{with_operations, with_arms};
+ghost use Rattle.cxx_grammar.specs.Expressions.{with_arms};
 ghost use Rattle.cxx_grammar.specs.Unaries.{sizeof_of};
 ghost use Rattle.cxx_tree.specs.declared.expr.Expr.TheVariants as expr_of;
 
-use containers::{Boxed, Items};
+use containers::Boxed;
 use cxx_base::Span;
 use cxx_grammar::{Arms, SizedOperand};
-use cxx_tree::{Expr, NewInit, Operation, TypeTree};
+use cxx_tree::{Expr, NewInit, TypeTree};
 use std::alloc::{AllocError, Global};
 
 fn sizeof_type(alloc: Global, span: Span, x: TypeTree) -> Result<Expr, AllocError>
@@ -65,22 +65,6 @@ pub fn new(
     let bound = boxed_bound(alloc, bound)?;
     let init = boxed_init(alloc, init)?;
     Ok(Expr::New(span, of, bound, init))
-}
-
-/// A first operand with the operations behind it, where there are any.
-pub fn chain(
-    alloc: Global,
-    x: Expr,
-    operations: Items<Operation>,
-    span: Span,
-) -> Result<Expr, AllocError>
-    ensures { IfOk result (λ made. made ≡ with_operations x operations span) }
-{
-    if operations.is_empty() {
-        return Ok(x);
-    }
-    let x = Boxed::new(alloc, x)?;
-    Ok(Expr::Chain(span, x, operations))
 }
 
 fn three(alloc: Global, span: Span, x: Expr, arms: Arms) -> Result<Expr, AllocError>

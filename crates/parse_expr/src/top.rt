@@ -7,47 +7,55 @@ ghost use Rattle.cxx_grammar.specs.Read.{read};
 ghost use Rattle.cxx_grammar.specs.Unaries.{sized};
 ghost use Rattle.cxx_reading.specs.Reading.{Gives};
 
-use crate::reader::ExprReader;
+use crate::choice::{expr_from, expr_here};
+use crate::sized::sized_here;
+use crate::unary::unary_here;
+use cxx_base::TOO_DEEP;
 use cxx_grammar::SizedOperand;
-use cxx_reading::Fault;
+use cxx_reading::{ExprFault, Reader};
 use cxx_tokens::Tokens;
 use cxx_tree::{ArgTrees, BracedTree, Expr, NameTree, SpliceTree, TypeTree};
-use parse_list::ListReader;
-use parse_primary::PrimaryReader;
-use parse_type::{TypeReader, name};
+use parse_level::Levels;
+use parse_list::{args, braced_list};
+use parse_type::{name, splice, type_tree};
 use std::alloc::Global;
 
-// The first level that is too deep.
-const TOO_DEEP: u32 = 257;
+// A reader of this level. The public calls are what it has for the next one.
+macro_rules! reader {
+    ($alloc:expr, $tokens:expr, $level:expr) => {
+        Reader {
+            alloc: $alloc,
+            tokens: $tokens,
+            level: $level + 1,
+            deeper: Levels {
+                expr: expression,
+                braced: braced_at,
+                unary: unary_at,
+                type_tree: type_at,
+                sized: sized_at,
+            },
+        }
+    };
+}
 
 /// The expression ([expr]) that begins at token number `at`, with `level` levels of nesting around it, and the number of
 /// the token after it: exactly what the grammar gives. The level is at most 257, where each rule is too deep. It answers
-/// `Syntax` exactly where nothing begins there, `Deep` exactly where it is too deep, or `Memory`.
+/// `S1` exactly where nothing begins there, `S2` exactly where it is too deep, or `Memory`.
 #[cycle(levels)]
-pub fn expression(alloc: Global, tokens: &Tokens, at: u32, level: u32) -> Result<(Expr, u32), Fault>
+pub fn expression(
+    alloc: Global,
+    tokens: &Tokens,
+    at: u32,
+    level: u32,
+) -> Result<(Expr, u32), ExprFault>
     requires { level ≤ 257 }
     ensures { Gives ((read tokens.now level).expr at) result }
 {
     if level == TOO_DEEP {
-        return Err(Fault::Deep);
+        return Err(ExprFault::S2);
     }
-    let reader = ExprReader {
-        primaries: PrimaryReader {
-            lists: ListReader {
-                types: TypeReader {
-                    alloc,
-                    tokens,
-                    level: level + 1,
-                    expr: expression,
-                },
-                braced: braced_at,
-            },
-        },
-        unary: unary_at,
-        type_tree: type_at,
-        sized: sized_at,
-    };
-    reader.expr_here(at)
+    let reader = reader!(alloc, tokens, level);
+    expr_here(&reader, at)
 }
 
 /// The same for a type ([dcl.name]).
@@ -57,20 +65,15 @@ pub fn type_at(
     tokens: &Tokens,
     at: u32,
     level: u32,
-) -> Result<(TypeTree, u32), Fault>
+) -> Result<(TypeTree, u32), ExprFault>
     requires { level ≤ 257 }
     ensures { Gives ((read tokens.now level).type_tree at) result }
 {
     if level == TOO_DEEP {
-        return Err(Fault::Deep);
+        return Err(ExprFault::S2);
     }
-    let reader = TypeReader {
-        alloc,
-        tokens,
-        level: level + 1,
-        expr: expression,
-    };
-    reader.type_tree(at)
+    let reader = reader!(alloc, tokens, level);
+    type_tree(&reader, at)
 }
 
 /// The same for a braced list ([dcl.init.list]).
@@ -80,51 +83,33 @@ pub fn braced_at(
     tokens: &Tokens,
     at: u32,
     level: u32,
-) -> Result<(BracedTree, u32), Fault>
+) -> Result<(BracedTree, u32), ExprFault>
     requires { level ≤ 257 }
     ensures { Gives ((read tokens.now level).braced at) result }
 {
     if level == TOO_DEEP {
-        return Err(Fault::Deep);
+        return Err(ExprFault::S2);
     }
-    let reader = ListReader {
-        types: TypeReader {
-            alloc,
-            tokens,
-            level: level + 1,
-            expr: expression,
-        },
-        braced: braced_at,
-    };
-    reader.braced_list(at)
+    let reader = reader!(alloc, tokens, level);
+    braced_list(&reader, at)
 }
 
 /// The same for a unary expression ([expr.unary]).
 #[cycle(levels)]
-pub fn unary_at(alloc: Global, tokens: &Tokens, at: u32, level: u32) -> Result<(Expr, u32), Fault>
+pub fn unary_at(
+    alloc: Global,
+    tokens: &Tokens,
+    at: u32,
+    level: u32,
+) -> Result<(Expr, u32), ExprFault>
     requires { level ≤ 257 }
     ensures { Gives ((read tokens.now level).unary at) result }
 {
     if level == TOO_DEEP {
-        return Err(Fault::Deep);
+        return Err(ExprFault::S2);
     }
-    let reader = ExprReader {
-        primaries: PrimaryReader {
-            lists: ListReader {
-                types: TypeReader {
-                    alloc,
-                    tokens,
-                    level: level + 1,
-                    expr: expression,
-                },
-                braced: braced_at,
-            },
-        },
-        unary: unary_at,
-        type_tree: type_at,
-        sized: sized_at,
-    };
-    reader.unary_here(at)
+    let reader = reader!(alloc, tokens, level);
+    unary_here(&reader, at)
 }
 
 // The operand of `sizeof`.
@@ -134,30 +119,15 @@ fn sized_at(
     tokens: &Tokens,
     at: u32,
     level: u32,
-) -> Result<(SizedOperand, u32), Fault>
+) -> Result<(SizedOperand, u32), ExprFault>
     requires { level ≤ 257 }
     ensures { Gives (sized tokens.now (read tokens.now level) at) result }
 {
     if level == TOO_DEEP {
-        return Err(Fault::Deep);
+        return Err(ExprFault::S2);
     }
-    let reader = ExprReader {
-        primaries: PrimaryReader {
-            lists: ListReader {
-                types: TypeReader {
-                    alloc,
-                    tokens,
-                    level: level + 1,
-                    expr: expression,
-                },
-                braced: braced_at,
-            },
-        },
-        unary: unary_at,
-        type_tree: type_at,
-        sized: sized_at,
-    };
-    reader.sized_here(at)
+    let reader = reader!(alloc, tokens, level);
+    sized_here(&reader, at)
 }
 
 /// The same for a name ([expr.prim.id]).
@@ -166,12 +136,12 @@ pub fn name_at(
     tokens: &Tokens,
     at: u32,
     level: u32,
-) -> Result<(NameTree, u32), Fault>
+) -> Result<(NameTree, u32), ExprFault>
     requires { level ≤ 257 }
     ensures { Gives ((read tokens.now level).name at) result }
 {
     if level == TOO_DEEP {
-        return Err(Fault::Deep);
+        return Err(ExprFault::S2);
     }
     name(alloc, tokens, at)
 }
@@ -182,20 +152,15 @@ pub fn splice_at(
     tokens: &Tokens,
     at: u32,
     level: u32,
-) -> Result<(SpliceTree, u32), Fault>
+) -> Result<(SpliceTree, u32), ExprFault>
     requires { level ≤ 257 }
     ensures { Gives ((read tokens.now level).splice at) result }
 {
     if level == TOO_DEEP {
-        return Err(Fault::Deep);
+        return Err(ExprFault::S2);
     }
-    let reader = TypeReader {
-        alloc,
-        tokens,
-        level: level + 1,
-        expr: expression,
-    };
-    reader.splice(at)
+    let reader = reader!(alloc, tokens, level);
+    splice(&reader, at)
 }
 
 /// The same for arguments with the parentheses around them ([expr.call]).
@@ -204,23 +169,15 @@ pub fn args_at(
     tokens: &Tokens,
     at: u32,
     level: u32,
-) -> Result<(ArgTrees, u32), Fault>
+) -> Result<(ArgTrees, u32), ExprFault>
     requires { level ≤ 257 }
     ensures { Gives ((read tokens.now level).args at) result }
 {
     if level == TOO_DEEP {
-        return Err(Fault::Deep);
+        return Err(ExprFault::S2);
     }
-    let reader = ListReader {
-        types: TypeReader {
-            alloc,
-            tokens,
-            level: level + 1,
-            expr: expression,
-        },
-        braced: braced_at,
-    };
-    reader.args(at)
+    let reader = reader!(alloc, tokens, level);
+    args(&reader, at)
 }
 
 /// What goes on behind a unary expression `first` that begins at token number `start` and ends before number `at`: the
@@ -233,25 +190,10 @@ pub fn expression_behind(
     first: Expr,
     at: u32,
     level: u32,
-) -> Result<(Expr, u32), Fault>
+) -> Result<(Expr, u32), ExprFault>
     requires { level ≤ 256 }
     ensures { Gives (expr_from tokens.now (read tokens.now (level + 1)) start first at) result }
 {
-    let reader = ExprReader {
-        primaries: PrimaryReader {
-            lists: ListReader {
-                types: TypeReader {
-                    alloc,
-                    tokens,
-                    level: level + 1,
-                    expr: expression,
-                },
-                braced: braced_at,
-            },
-        },
-        unary: unary_at,
-        type_tree: type_at,
-        sized: sized_at,
-    };
-    reader.expr_from(start, first, at)
+    let reader = reader!(alloc, tokens, level);
+    expr_from(&reader, start, first, at)
 }

@@ -6,6 +6,6 @@
 mod arguments;
 mod bracing;
 mod clauses;
-mod reader;
 
-pub use reader::ListReader;
+pub use arguments::args;
+pub use bracing::braced_list;

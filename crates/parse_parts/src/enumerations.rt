@@ -1,227 +1,119 @@
 //! Enumerations ([dcl.enum]).
 
-ghost use Rattle.std.specs.Prelude.{◌≤◌};
 ghost use Rattle.cxx_grammar.specs.Declarations as spec;
-ghost use Rattle.cxx_grammar.specs.Sequences.{next_of};
-ghost use Rattle.cxx_reading.specs.Reading.{Gives, optional};
+ghost use Rattle.cxx_reading.specs.Reading.{Gives};
 
-use crate::specifier::key;
-use containers::{Boxed, Items};
-use cxx_reading::{Fault, eat, expect, expect_word, identifier, left, single, span};
-use cxx_tokens::Tokens;
+use crate::specifier::KeyWord;
+use containers::Items;
+use cxx_base::MAX_NESTING;
+use cxx_reading::{ExprFault, eat, expect, expect_word, identifier, span};
 use cxx_tokens::keyword::ENUM;
 use cxx_tokens::mark::{COLON, COMMA, EQUAL, LEFT_BRACE, RIGHT_BRACE, SEMICOLON};
-use cxx_tree::{ClassKey, EnumTree, EnumeratorTree, Expr, TypeTree};
+use cxx_tree::{EnumTree, EnumeratorTree, Expr, TypeTree};
 use parse_expr::{expression, type_at};
-use std::alloc::Global;
+use parse_repeat::{Here, Part, boxed_if_any, comma_list, optional, or_empty};
 
-// The last level at which a rule may be read.
-const LAST: u32 = 256;
+// The value of an enumerator of an enumeration at this level.
+#[derive(Clone, Copy)]
+struct Value<'a>(Here<'a>);
 
-#[tactic(auto, unfolding(cxx_grammar::specs::Declarations::enumerator_value))]
-fn enumerator_value(
-    alloc: Global,
-    tokens: &Tokens,
-    start: u32,
-    level: u32,
-) -> Result<(Expr, u32), Fault>
-    requires { level ≤ 256 }
-    ensures { Gives (spec.enumerator_value tokens.now level start) result }
-{
-    let at = expect(tokens, EQUAL, start)?;
-    expression(alloc, tokens, at, level + 1)
-}
+impl Part for Value<'_> {
+    type Tree = Expr;
 
-#[tactic(auto, unfolding(cxx_reading::specs::Reading::optional))]
-fn value_if_any(
-    alloc: Global,
-    tokens: &Tokens,
-    start: u32,
-    level: u32,
-) -> Result<(Option<Expr>, u32), Fault>
-    requires { level ≤ 256 }
-    ensures { Gives (optional (spec.enumerator_value tokens.now level) start) result }
-{
-    match enumerator_value(alloc, tokens, start, level) {
-        Ok((x, end)) => Ok((Some(x), end)),
-        Err(Fault::Syntax) => Ok((None, start)),
-        Err(Fault::Deep) => Err(Fault::Deep),
-        Err(Fault::Memory) => Err(Fault::Memory),
+    ghost can = { λ _. Unit {0} };
+
+    ghost part = { λ p. spec.enumerator_value p.0.tokens.now p.0.level };
+
+    #[tactic(auto, unfolding(cxx_grammar::specs::Declarations::enumerator_value))]
+    fn read(&self, start: u32) -> Result<(Expr, u32), ExprFault> {
+        let at = expect(self.0.tokens, EQUAL, start)?;
+        expression(self.0.alloc, self.0.tokens, at, self.0.level + 1)
     }
 }
 
-#[tactic(auto, unfolding(cxx_grammar::specs::Declarations::enumerator_form))]
-fn enumerator_form(
-    alloc: Global,
-    tokens: &Tokens,
-    start: u32,
-    level: u32,
-) -> Result<(EnumeratorTree, u32), Fault>
-    requires { level ≤ 256 }
-    ensures { Gives (spec.enumerator_form tokens.now level start) result }
-{
-    let (name, at) = identifier(tokens, start)?;
-    let (value, end) = value_if_any(alloc, tokens, at, level)?;
-    let span = span(tokens, start, end);
-    Ok((EnumeratorTree { span, name, value }, end))
-}
+// An enumerator of an enumeration at this level.
+#[derive(Clone, Copy)]
+struct Enumerator<'a>(Here<'a>);
 
-#[tactic(auto, using(crate::proofs::Levels::levels))]
-fn enumerator(
-    alloc: Global,
-    tokens: &Tokens,
-    start: u32,
-    level: u32,
-) -> Result<(EnumeratorTree, u32), Fault>
-    requires { level ≤ 256 }
-    ensures { Gives (spec.enumerator tokens.now level start) result }
-{
-    if level == LAST {
-        Err(Fault::Deep)
-    } else {
-        enumerator_form(alloc, tokens, start, level)
+impl Enumerator<'_> {
+    #[tactic(auto, unfolding(cxx_grammar::specs::Declarations::enumerator_form))]
+    fn form(&self, start: u32) -> Result<(EnumeratorTree, u32), ExprFault>
+        ensures { Gives (spec.enumerator_form self.now.0.tokens.now self.now.0.level start) result }
+    {
+        let (name, at) = identifier(self.0.tokens, start)?;
+        let (value, end) = optional(&Value(self.0), at)?;
+        let span = span(self.0.tokens, start, end);
+        Ok((EnumeratorTree { span, name, value }, end))
     }
 }
 
-#[tactic(auto)]
-fn next_enumerator(
-    alloc: Global,
-    tokens: &Tokens,
-    start: u32,
-    level: u32,
-) -> Result<(EnumeratorTree, u32), Fault>
-    requires { level ≤ 256 }
-    ensures { Gives (next_of tokens.now (spec.enumerator tokens.now level) start) result }
-{
-    let at = expect(tokens, COMMA, start)?;
-    enumerator(alloc, tokens, at, level)
-}
+impl Part for Enumerator<'_> {
+    type Tree = EnumeratorTree;
 
-#[tactic(auto, unfolding(cxx_grammar::specs::Declarations::more_enumerators), using(cxx_reading::proofs::Turns::loops))]
-fn more_enumerators(
-    alloc: Global,
-    tokens: &Tokens,
-    mut found: Items<EnumeratorTree>,
-    mut at: u32,
-    level: u32,
-) -> Result<(Items<EnumeratorTree>, u32), Fault>
-    requires { level ≤ 256 }
-    ensures { Gives (spec.more_enumerators tokens.now level found at) result }
-{
-    for _turn in 0..left(tokens, at) {
-        match next_enumerator(alloc, tokens, at, level) {
-            Ok((x, after)) => {
-                found.push(x)?;
-                at = after;
-            }
-            Err(Fault::Syntax) => return Ok((found, at)),
-            Err(Fault::Deep) => return Err(Fault::Deep),
-            Err(Fault::Memory) => return Err(Fault::Memory),
+    ghost can = { λ _. Unit {0} };
+
+    ghost part = { λ p. spec.enumerator p.0.tokens.now p.0.level };
+
+    #[tactic(auto, using(crate::proofs::Levels::levels))]
+    fn read(&self, start: u32) -> Result<(EnumeratorTree, u32), ExprFault> {
+        if self.0.level == MAX_NESTING {
+            Err(ExprFault::S2)
+        } else {
+            self.form(start)
         }
     }
-    Ok((found, at))
 }
 
-#[tactic(auto, unfolding(cxx_grammar::specs::Declarations::some_enumerators))]
-fn some_enumerators(
-    alloc: Global,
-    tokens: &Tokens,
-    start: u32,
-    level: u32,
-) -> Result<(Items<EnumeratorTree>, u32), Fault>
-    requires { level ≤ 256 }
-    ensures { Gives (spec.some_enumerators tokens.now level start) result }
+#[tactic(auto, unfolding(cxx_grammar::specs::Declarations::some_enumerators, cxx_grammar::specs::Declarations::more_enumerators))]
+fn some_enumerators(here: &Here<'_>, start: u32) -> Result<(Items<EnumeratorTree>, u32), ExprFault>
+    ensures { Gives (spec.some_enumerators here.now.tokens.now here.now.level start) result }
 {
-    let (first, at) = enumerator(alloc, tokens, start, level)?;
-    let found = single(alloc, first)?;
-    let (found, at) = more_enumerators(alloc, tokens, found, at, level)?;
-    let (_, end) = eat(tokens, COMMA, at);
+    let one = Enumerator(*here);
+    let (found, at) = comma_list(here.alloc, here.tokens, &one, start)?;
+    let (_, end) = eat(here.tokens, COMMA, at);
     Ok((found, end))
 }
 
-#[tactic(auto, unfolding(cxx_grammar::specs::Declarations::enumerators, cxx_reading::specs::Reading::if_any))]
-fn enumerators(
-    alloc: Global,
-    tokens: &Tokens,
-    start: u32,
-    level: u32,
-) -> Result<(Items<EnumeratorTree>, u32), Fault>
-    requires { level ≤ 256 }
-    ensures { Gives (spec.enumerators tokens.now level start) result }
+#[tactic(auto, unfolding(cxx_grammar::specs::Declarations::enumerators), using(parse_repeat::proofs::Missing::or_empty))]
+fn enumerators(here: &Here<'_>, start: u32) -> Result<(Items<EnumeratorTree>, u32), ExprFault>
+    ensures { Gives (spec.enumerators here.now.tokens.now here.now.level start) result }
 {
-    match some_enumerators(alloc, tokens, start, level) {
-        Ok(found) => Ok(found),
-        Err(Fault::Syntax) => Ok((Items::new(alloc), start)),
-        Err(Fault::Deep) => Err(Fault::Deep),
-        Err(Fault::Memory) => Err(Fault::Memory),
-    }
+    or_empty(here.alloc, some_enumerators(here, start), start)
 }
 
-#[tactic(auto, unfolding(cxx_grammar::specs::Declarations::underlying))]
-fn underlying(
-    alloc: Global,
-    tokens: &Tokens,
-    start: u32,
-    level: u32,
-) -> Result<(Boxed<TypeTree>, u32), Fault>
-    requires { level ≤ 256 }
-    ensures { Gives (spec.underlying tokens.now level start) result }
-{
-    let at = expect(tokens, COLON, start)?;
-    let (x, end) = type_at(alloc, tokens, at, level)?;
-    Ok((Boxed::new(alloc, x)?, end))
-}
+// The type that an enumeration at this level stands on.
+#[derive(Clone, Copy)]
+struct Underlying<'a>(Here<'a>);
 
-#[tactic(auto, unfolding(cxx_reading::specs::Reading::optional))]
-fn underlying_if_any(
-    alloc: Global,
-    tokens: &Tokens,
-    start: u32,
-    level: u32,
-) -> Result<(Option<Boxed<TypeTree>>, u32), Fault>
-    requires { level ≤ 256 }
-    ensures { Gives (optional (spec.underlying tokens.now level) start) result }
-{
-    match underlying(alloc, tokens, start, level) {
-        Ok((x, end)) => Ok((Some(x), end)),
-        Err(Fault::Syntax) => Ok((None, start)),
-        Err(Fault::Deep) => Err(Fault::Deep),
-        Err(Fault::Memory) => Err(Fault::Memory),
-    }
-}
+impl Part for Underlying<'_> {
+    type Tree = TypeTree;
 
-#[tactic(auto, unfolding(cxx_reading::specs::Reading::optional))]
-fn key_if_any(tokens: &Tokens, start: u32) -> Result<(Option<ClassKey>, u32), Fault>
-    ensures { Gives (optional (spec.key tokens.now) start) result }
-{
-    match key(tokens, start) {
-        Ok((x, end)) => Ok((Some(x), end)),
-        Err(Fault::Syntax) => Ok((None, start)),
-        Err(Fault::Deep) => Err(Fault::Deep),
-        Err(Fault::Memory) => Err(Fault::Memory),
+    ghost can = { λ _. Unit {0} };
+
+    ghost part = { λ p. spec.underlying p.0.tokens.now p.0.level };
+
+    #[tactic(auto, unfolding(cxx_grammar::specs::Declarations::underlying))]
+    fn read(&self, start: u32) -> Result<(TypeTree, u32), ExprFault> {
+        let at = expect(self.0.tokens, COLON, start)?;
+        type_at(self.0.alloc, self.0.tokens, at, self.0.level)
     }
 }
 
 /// An enumeration with its enumerators.
 #[tactic(auto, unfolding(cxx_grammar::specs::Declarations::enumeration))]
-pub fn enumeration(
-    alloc: Global,
-    tokens: &Tokens,
-    start: u32,
-    level: u32,
-) -> Result<(EnumTree, u32), Fault>
-    requires { level ≤ 256 }
-    ensures { Gives (spec.enumeration tokens.now level start) result }
+pub fn enumeration(here: &Here<'_>, start: u32) -> Result<(EnumTree, u32), ExprFault>
+    ensures { Gives (spec.enumeration here.now.tokens.now here.now.level start) result }
 {
-    let at = expect_word(tokens, ENUM, start)?;
-    let (key, at) = key_if_any(tokens, at)?;
-    let (name, at) = identifier(tokens, at)?;
-    let (underlying, at) = underlying_if_any(alloc, tokens, at, level)?;
-    let at = expect(tokens, LEFT_BRACE, at)?;
-    let (enumerators, at) = enumerators(alloc, tokens, at, level)?;
-    let at = expect(tokens, RIGHT_BRACE, at)?;
-    let end = expect(tokens, SEMICOLON, at)?;
-    let span = span(tokens, start, end);
+    let at = expect_word(here.tokens, ENUM, start)?;
+    let (key, at) = optional(&KeyWord(here.tokens), at)?;
+    let (name, at) = identifier(here.tokens, at)?;
+    let on = Underlying(*here);
+    let (underlying, at) = boxed_if_any(here.alloc, &on, at)?;
+    let at = expect(here.tokens, LEFT_BRACE, at)?;
+    let (enumerators, at) = enumerators(here, at)?;
+    let at = expect(here.tokens, RIGHT_BRACE, at)?;
+    let end = expect(here.tokens, SEMICOLON, at)?;
+    let span = span(here.tokens, start, end);
     Ok((
         EnumTree {
             span,

@@ -1,148 +1,73 @@
 //! Member initializers ([class.base.init]).
 
-ghost use Rattle.std.specs.Prelude.{◌≤◌};
-ghost use Rattle.cxx_grammar.specs.Declarations as spec;
-ghost use Rattle.cxx_grammar.specs.Sequences.{next_of};
+ghost use Rattle.cxx_grammar.specs.Classes as spec;
 ghost use Rattle.cxx_reading.specs.Reading.{Gives};
 
 use containers::Items;
-use cxx_reading::{Fault, expect, left, longer, single, span};
-use cxx_tokens::Tokens;
-use cxx_tokens::mark::{COLON, COMMA};
+use cxx_reading::{ExprFault, expect, longer, span};
+use cxx_tokens::mark::COLON;
 use cxx_tree::{MemberInit, MemberInitValue};
 use parse_expr::{args_at, braced_at, name_at};
-use std::alloc::Global;
+use parse_repeat::{Here, Part, comma_list, or_empty};
 
-#[tactic(auto, unfolding(cxx_grammar::specs::Declarations::value_args))]
-fn value_args(
-    alloc: Global,
-    tokens: &Tokens,
-    start: u32,
-    level: u32,
-) -> Result<(MemberInitValue, u32), Fault>
-    requires { level ≤ 256 }
-    ensures { Gives (spec.value_args tokens.now level start) result }
-{
-    let (x, end) = args_at(alloc, tokens, start, level)?;
-    Ok((MemberInitValue::Args(x), end))
-}
+// A member initializer of a constructor at this level.
+#[derive(Clone, Copy)]
+struct OneInit<'a>(Here<'a>);
 
-#[tactic(auto, unfolding(cxx_grammar::specs::Declarations::value_braced))]
-fn value_braced(
-    alloc: Global,
-    tokens: &Tokens,
-    start: u32,
-    level: u32,
-) -> Result<(MemberInitValue, u32), Fault>
-    requires { level ≤ 256 }
-    ensures { Gives (spec.value_braced tokens.now level start) result }
-{
-    let (x, end) = braced_at(alloc, tokens, start, level)?;
-    Ok((MemberInitValue::Braced(x), end))
-}
-
-#[tactic(auto, unfolding(cxx_grammar::specs::Declarations::init_value), using(cxx_reading::proofs::Choices::choice))]
-fn init_value(
-    alloc: Global,
-    tokens: &Tokens,
-    start: u32,
-    level: u32,
-) -> Result<(MemberInitValue, u32), Fault>
-    requires { level ≤ 256 }
-    ensures { Gives (spec.init_value tokens.now level start) result }
-{
-    longer(
-        value_args(alloc, tokens, start, level),
-        value_braced(alloc, tokens, start, level),
-    )
-}
-
-#[tactic(auto, unfolding(cxx_grammar::specs::Declarations::member_init))]
-fn member_init(
-    alloc: Global,
-    tokens: &Tokens,
-    start: u32,
-    level: u32,
-) -> Result<(MemberInit, u32), Fault>
-    requires { level ≤ 256 }
-    ensures { Gives (spec.member_init tokens.now level start) result }
-{
-    let (name, at) = name_at(alloc, tokens, start, level)?;
-    let (value, end) = init_value(alloc, tokens, at, level)?;
-    let span = span(tokens, start, end);
-    Ok((MemberInit { span, name, value }, end))
-}
-
-#[tactic(auto)]
-fn next_member_init(
-    alloc: Global,
-    tokens: &Tokens,
-    start: u32,
-    level: u32,
-) -> Result<(MemberInit, u32), Fault>
-    requires { level ≤ 256 }
-    ensures { Gives (next_of tokens.now (spec.member_init tokens.now level) start) result }
-{
-    let at = expect(tokens, COMMA, start)?;
-    member_init(alloc, tokens, at, level)
-}
-
-#[tactic(auto, unfolding(cxx_grammar::specs::Declarations::more_inits), using(cxx_reading::proofs::Turns::loops))]
-fn more_inits(
-    alloc: Global,
-    tokens: &Tokens,
-    mut found: Items<MemberInit>,
-    mut at: u32,
-    level: u32,
-) -> Result<(Items<MemberInit>, u32), Fault>
-    requires { level ≤ 256 }
-    ensures { Gives (spec.more_inits tokens.now level found at) result }
-{
-    for _turn in 0..left(tokens, at) {
-        match next_member_init(alloc, tokens, at, level) {
-            Ok((x, after)) => {
-                found.push(x)?;
-                at = after;
-            }
-            Err(Fault::Syntax) => return Ok((found, at)),
-            Err(Fault::Deep) => return Err(Fault::Deep),
-            Err(Fault::Memory) => return Err(Fault::Memory),
-        }
+impl OneInit<'_> {
+    #[tactic(auto, unfolding(cxx_grammar::specs::Classes::value_args))]
+    fn args(&self, start: u32) -> Result<(MemberInitValue, u32), ExprFault>
+        ensures { Gives (spec.value_args self.now.0.tokens.now self.now.0.level start) result }
+    {
+        let (x, end) = args_at(self.0.alloc, self.0.tokens, start, self.0.level)?;
+        Ok((MemberInitValue::Args(x), end))
     }
-    Ok((found, at))
+
+    #[tactic(auto, unfolding(cxx_grammar::specs::Classes::value_braced))]
+    fn braced(&self, start: u32) -> Result<(MemberInitValue, u32), ExprFault>
+        ensures { Gives (spec.value_braced self.now.0.tokens.now self.now.0.level start) result }
+    {
+        let (x, end) = braced_at(self.0.alloc, self.0.tokens, start, self.0.level)?;
+        Ok((MemberInitValue::Braced(x), end))
+    }
+
+    #[tactic(auto, unfolding(cxx_grammar::specs::Classes::init_value), using(cxx_reading::proofs::Choices::choice))]
+    fn value(&self, start: u32) -> Result<(MemberInitValue, u32), ExprFault>
+        ensures { Gives (spec.init_value self.now.0.tokens.now self.now.0.level start) result }
+    {
+        longer(self.args(start), self.braced(start))
+    }
 }
 
-#[tactic(auto, unfolding(cxx_grammar::specs::Declarations::some_inits))]
-fn some_inits(
-    alloc: Global,
-    tokens: &Tokens,
-    start: u32,
-    level: u32,
-) -> Result<(Items<MemberInit>, u32), Fault>
-    requires { level ≤ 256 }
-    ensures { Gives (spec.some_inits tokens.now level start) result }
+impl Part for OneInit<'_> {
+    type Tree = MemberInit;
+
+    ghost can = { λ _. Unit {0} };
+
+    ghost part = { λ p. spec.member_init p.0.tokens.now p.0.level };
+
+    #[tactic(auto, unfolding(cxx_grammar::specs::Classes::member_init))]
+    fn read(&self, start: u32) -> Result<(MemberInit, u32), ExprFault> {
+        let (name, at) = name_at(self.0.alloc, self.0.tokens, start, self.0.level)?;
+        let (value, end) = self.value(at)?;
+        let span = span(self.0.tokens, start, end);
+        Ok((MemberInit { span, name, value }, end))
+    }
+}
+
+#[tactic(auto, unfolding(cxx_grammar::specs::Classes::some_inits, cxx_grammar::specs::Classes::more_inits))]
+fn some_inits(here: &Here<'_>, start: u32) -> Result<(Items<MemberInit>, u32), ExprFault>
+    ensures { Gives (spec.some_inits here.now.tokens.now here.now.level start) result }
 {
-    let at = expect(tokens, COLON, start)?;
-    let (first, at) = member_init(alloc, tokens, at, level)?;
-    let found = single(alloc, first)?;
-    more_inits(alloc, tokens, found, at, level)
+    let at = expect(here.tokens, COLON, start)?;
+    let one = OneInit(*here);
+    comma_list(here.alloc, here.tokens, &one, at)
 }
 
 /// The member initializers of a constructor, or none.
-#[tactic(auto, unfolding(cxx_grammar::specs::Declarations::member_inits, cxx_reading::specs::Reading::if_any))]
-pub fn member_inits(
-    alloc: Global,
-    tokens: &Tokens,
-    start: u32,
-    level: u32,
-) -> Result<(Items<MemberInit>, u32), Fault>
-    requires { level ≤ 256 }
-    ensures { Gives (spec.member_inits tokens.now level start) result }
+#[tactic(auto, unfolding(cxx_grammar::specs::Classes::member_inits), using(parse_repeat::proofs::Missing::or_empty))]
+pub fn member_inits(here: &Here<'_>, start: u32) -> Result<(Items<MemberInit>, u32), ExprFault>
+    ensures { Gives (spec.member_inits here.now.tokens.now here.now.level start) result }
 {
-    match some_inits(alloc, tokens, start, level) {
-        Ok(found) => Ok(found),
-        Err(Fault::Syntax) => Ok((Items::new(alloc), start)),
-        Err(Fault::Deep) => Err(Fault::Deep),
-        Err(Fault::Memory) => Err(Fault::Memory),
-    }
+    or_empty(here.alloc, some_inits(here, start), start)
 }

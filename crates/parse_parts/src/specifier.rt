@@ -1,24 +1,26 @@
 //! Specifiers ([dcl.spec], [dcl.fct.spec], [class.mem], [class.access]).
 
 ghost use Rattle.std.specs.Prelude.{◌≡◌, IfErr};
+ghost use Rattle.cxx_grammar.specs.Classes as classes;
 ghost use Rattle.cxx_grammar.specs.Declarations as spec;
 ghost use Rattle.cxx_reading.specs.Reading.{Gives};
 
 use crate::word::{access_of_word, key_of_word, with_constructor_word, with_spec};
 use cxx_grammar::DeclWords;
-use cxx_reading::{Fault, any_word, left};
+use cxx_reading::{ExprFault, any_word, left};
 use cxx_tokens::Tokens;
 use cxx_tree::{Access, ClassKey};
+use parse_repeat::Part;
 
 #[tactic(auto, unfolding(cxx_grammar::specs::Declarations::specifier))]
-fn specifier(tokens: &Tokens, found: DeclWords, start: u32) -> Result<(DeclWords, u32), Fault>
+fn specifier(tokens: &Tokens, found: DeclWords, start: u32) -> Result<(DeclWords, u32), ExprFault>
     ensures gives { Gives (spec.specifier tokens.now found start) result }
-    ensures sure { IfErr result (λ fault. fault ≡ Fault.Syntax) }
+    ensures sure { IfErr result (λ fault. fault ≡ ExprFault.S1) }
 {
     let (word, end) = any_word(tokens, start)?;
     match with_spec(found, word) {
         Some(x) => Ok((x, end)),
-        None => Err(Fault::Syntax),
+        None => Err(ExprFault::S1),
     }
 }
 
@@ -28,9 +30,9 @@ pub fn specifiers(
     tokens: &Tokens,
     mut found: DeclWords,
     mut at: u32,
-) -> Result<(DeclWords, u32), Fault>
+) -> Result<(DeclWords, u32), ExprFault>
     ensures gives { Gives (spec.specifiers tokens.now found at) result }
-    ensures sure { IfErr result (λ fault. fault ≡ Fault.Syntax) }
+    ensures sure { IfErr result (λ fault. fault ≡ ExprFault.S1) }
 {
     for _turn in 0..left(tokens, at) {
         match specifier(tokens, found, at) {
@@ -38,9 +40,9 @@ pub fn specifiers(
                 found = x;
                 at = after;
             }
-            Err(Fault::Syntax) => return Ok((found, at)),
-            Err(Fault::Deep) => return Err(Fault::Deep),
-            Err(Fault::Memory) => return Err(Fault::Memory),
+            Err(ExprFault::S1) => return Ok((found, at)),
+            Err(ExprFault::S2) => return Err(ExprFault::S2),
+            Err(ExprFault::Memory) => return Err(ExprFault::Memory),
         }
     }
     Ok((found, at))
@@ -51,14 +53,14 @@ fn constructor_word(
     tokens: &Tokens,
     found: DeclWords,
     start: u32,
-) -> Result<(DeclWords, u32), Fault>
+) -> Result<(DeclWords, u32), ExprFault>
     ensures gives { Gives (spec.constructor_word tokens.now found start) result }
-    ensures sure { IfErr result (λ fault. fault ≡ Fault.Syntax) }
+    ensures sure { IfErr result (λ fault. fault ≡ ExprFault.S1) }
 {
     let (word, end) = any_word(tokens, start)?;
     match with_constructor_word(found, word) {
         Some(x) => Ok((x, end)),
-        None => Err(Fault::Syntax),
+        None => Err(ExprFault::S1),
     }
 }
 
@@ -68,9 +70,9 @@ pub fn constructor_words(
     tokens: &Tokens,
     mut found: DeclWords,
     mut at: u32,
-) -> Result<(DeclWords, u32), Fault>
+) -> Result<(DeclWords, u32), ExprFault>
     ensures gives { Gives (spec.constructor_words tokens.now found at) result }
-    ensures sure { IfErr result (λ fault. fault ≡ Fault.Syntax) }
+    ensures sure { IfErr result (λ fault. fault ≡ ExprFault.S1) }
 {
     for _turn in 0..left(tokens, at) {
         match constructor_word(tokens, found, at) {
@@ -78,9 +80,9 @@ pub fn constructor_words(
                 found = x;
                 at = after;
             }
-            Err(Fault::Syntax) => return Ok((found, at)),
-            Err(Fault::Deep) => return Err(Fault::Deep),
-            Err(Fault::Memory) => return Err(Fault::Memory),
+            Err(ExprFault::S1) => return Ok((found, at)),
+            Err(ExprFault::S2) => return Err(ExprFault::S2),
+            Err(ExprFault::Memory) => return Err(ExprFault::Memory),
         }
     }
     Ok((found, at))
@@ -88,26 +90,58 @@ pub fn constructor_words(
 
 /// `struct` or `class`.
 #[tactic(auto, unfolding(cxx_grammar::specs::Declarations::key))]
-pub fn key(tokens: &Tokens, start: u32) -> Result<(ClassKey, u32), Fault>
+pub fn key(tokens: &Tokens, start: u32) -> Result<(ClassKey, u32), ExprFault>
     ensures gives { Gives (spec.key tokens.now start) result }
-    ensures sure { IfErr result (λ fault. fault ≡ Fault.Syntax) }
+    ensures sure { IfErr result (λ fault. fault ≡ ExprFault.S1) }
 {
     let (word, end) = any_word(tokens, start)?;
     match key_of_word(word) {
         Some(x) => Ok((x, end)),
-        None => Err(Fault::Syntax),
+        None => Err(ExprFault::S1),
     }
 }
 
 /// `public`, `protected` or `private`.
-#[tactic(auto, unfolding(cxx_grammar::specs::Declarations::access))]
-pub fn access(tokens: &Tokens, start: u32) -> Result<(Access, u32), Fault>
-    ensures gives { Gives (spec.access tokens.now start) result }
-    ensures sure { IfErr result (λ fault. fault ≡ Fault.Syntax) }
+#[tactic(auto, unfolding(cxx_grammar::specs::Classes::access))]
+pub fn access(tokens: &Tokens, start: u32) -> Result<(Access, u32), ExprFault>
+    ensures gives { Gives (classes.access tokens.now start) result }
+    ensures sure { IfErr result (λ fault. fault ≡ ExprFault.S1) }
 {
     let (word, end) = any_word(tokens, start)?;
     match access_of_word(word) {
         Some(x) => Ok((x, end)),
-        None => Err(Fault::Syntax),
+        None => Err(ExprFault::S1),
+    }
+}
+
+/// The word of an access, as a part.
+#[derive(Clone, Copy)]
+pub struct AccessWord<'a>(pub &'a Tokens);
+
+impl Part for AccessWord<'_> {
+    type Tree = Access;
+
+    ghost can = { λ _. Unit {0} };
+
+    ghost part = { λ p. classes.access p.0.now };
+
+    fn read(&self, at: u32) -> Result<(Access, u32), ExprFault> {
+        access(self.0, at)
+    }
+}
+
+/// The word of a class, as a part.
+#[derive(Clone, Copy)]
+pub struct KeyWord<'a>(pub &'a Tokens);
+
+impl Part for KeyWord<'_> {
+    type Tree = ClassKey;
+
+    ghost can = { λ _. Unit {0} };
+
+    ghost part = { λ p. spec.key p.0.now };
+
+    fn read(&self, at: u32) -> Result<(ClassKey, u32), ExprFault> {
+        key(self.0, at)
     }
 }

@@ -1,6 +1,7 @@
 //! The words before a declared type or name, and which stand together ([dcl.spec]).
 
 ghost use Rattle.std.specs.Prelude.{◌≡◌};
+ghost use Rattle.cxx_grammar.specs.Classes as classes;
 ghost use Rattle.cxx_grammar.specs.Declarations as spec;
 
 use cxx_grammar::DeclWords;
@@ -132,7 +133,7 @@ pub fn key_of_word(word: u32) -> Option<ClassKey>
 
 /// `public`, `protected` or `private`, by its number.
 pub fn access_of_word(word: u32) -> Option<Access>
-    ensures { result ≡ spec.access_of_word word }
+    ensures { result ≡ classes.access_of_word word }
 {
     if word == PUBLIC {
         Some(Access::Public)

@@ -3,14 +3,14 @@
 ghost use Rattle.cxx_grammar.specs.Primaries as spec;
 ghost use Rattle.cxx_reading.specs.Reading.{Gives};
 
-use cxx_reading::{Fault, character, expect_word, integer, span, text};
+use cxx_reading::{ExprFault, character, expect_word, integer, span, text};
 use cxx_tokens::Tokens;
 use cxx_tokens::keyword::{FALSE, NULLPTR, THIS, TRUE};
 use cxx_tree::Expr;
 use std::alloc::Global;
 
 #[tactic(auto, unfolding(cxx_grammar::specs::Primaries::integer_form))]
-pub fn integer_form(tokens: &Tokens, start: u32) -> Result<(Expr, u32), Fault>
+pub fn integer_form(tokens: &Tokens, start: u32) -> Result<(Expr, u32), ExprFault>
     ensures { Gives (spec.integer_form tokens.now start) result }
 {
     let (n, end) = integer(tokens, start)?;
@@ -19,7 +19,7 @@ pub fn integer_form(tokens: &Tokens, start: u32) -> Result<(Expr, u32), Fault>
 }
 
 #[tactic(auto, unfolding(cxx_grammar::specs::Primaries::character_form))]
-pub fn character_form(tokens: &Tokens, start: u32) -> Result<(Expr, u32), Fault>
+pub fn character_form(tokens: &Tokens, start: u32) -> Result<(Expr, u32), ExprFault>
     ensures { Gives (spec.character_form tokens.now start) result }
 {
     let (n, end) = character(tokens, start)?;
@@ -28,7 +28,7 @@ pub fn character_form(tokens: &Tokens, start: u32) -> Result<(Expr, u32), Fault>
 }
 
 #[tactic(auto, unfolding(cxx_grammar::specs::Primaries::text_form))]
-pub fn text_form(alloc: Global, tokens: &Tokens, start: u32) -> Result<(Expr, u32), Fault>
+pub fn text_form(alloc: Global, tokens: &Tokens, start: u32) -> Result<(Expr, u32), ExprFault>
     ensures { Gives (spec.text_form tokens.now start) result }
 {
     let (n, end) = text(alloc, tokens, start)?;
@@ -37,7 +37,7 @@ pub fn text_form(alloc: Global, tokens: &Tokens, start: u32) -> Result<(Expr, u3
 }
 
 #[tactic(auto, unfolding(cxx_grammar::specs::Primaries::true_form))]
-pub fn true_form(tokens: &Tokens, start: u32) -> Result<(Expr, u32), Fault>
+pub fn true_form(tokens: &Tokens, start: u32) -> Result<(Expr, u32), ExprFault>
     ensures { Gives (spec.true_form tokens.now start) result }
 {
     let end = expect_word(tokens, TRUE, start)?;
@@ -46,7 +46,7 @@ pub fn true_form(tokens: &Tokens, start: u32) -> Result<(Expr, u32), Fault>
 }
 
 #[tactic(auto, unfolding(cxx_grammar::specs::Primaries::false_form))]
-pub fn false_form(tokens: &Tokens, start: u32) -> Result<(Expr, u32), Fault>
+pub fn false_form(tokens: &Tokens, start: u32) -> Result<(Expr, u32), ExprFault>
     ensures { Gives (spec.false_form tokens.now start) result }
 {
     let end = expect_word(tokens, FALSE, start)?;
@@ -55,7 +55,7 @@ pub fn false_form(tokens: &Tokens, start: u32) -> Result<(Expr, u32), Fault>
 }
 
 #[tactic(auto, unfolding(cxx_grammar::specs::Primaries::nullptr_form))]
-pub fn nullptr_form(tokens: &Tokens, start: u32) -> Result<(Expr, u32), Fault>
+pub fn nullptr_form(tokens: &Tokens, start: u32) -> Result<(Expr, u32), ExprFault>
     ensures { Gives (spec.nullptr_form tokens.now start) result }
 {
     let end = expect_word(tokens, NULLPTR, start)?;
@@ -64,7 +64,7 @@ pub fn nullptr_form(tokens: &Tokens, start: u32) -> Result<(Expr, u32), Fault>
 }
 
 #[tactic(auto, unfolding(cxx_grammar::specs::Primaries::this_form))]
-pub fn this_form(tokens: &Tokens, start: u32) -> Result<(Expr, u32), Fault>
+pub fn this_form(tokens: &Tokens, start: u32) -> Result<(Expr, u32), ExprFault>
     ensures { Gives (spec.this_form tokens.now start) result }
 {
     let end = expect_word(tokens, THIS, start)?;

@@ -9,8 +9,8 @@ mod brackets;
 mod init;
 mod made;
 mod primaries;
-mod reader;
 mod suffixes;
 
+pub use init::initializer;
 pub use made::typename_made;
-pub use reader::PrimaryReader;
+pub use suffixes::{postfix, postfix_from};

@@ -1,25 +1,22 @@
 //! What is answered to a question.
 
-use crate::asked::{Asked, LAST, Question};
+use crate::asked::{Asked, Question};
 use crate::grown::text_of;
 use crate::reading::Start;
 use crate::same::is_same;
 use crate::told::{Reading, told};
-use cxx_base::{Memory, Names};
-use cxx_reading::Fault;
+use cxx_base::{MAX_SOURCE, Memory, Names, TOO_DEEP};
+use cxx_reading::ExprFault;
 use cxx_tokens::{LexFault, Tokens, tokens};
-use expr_show::{Part, plain_same};
+use expr_show::Part;
 use std::alloc::Global;
-
-/// The most bytes of a text that has tokens.
-const MOST: usize = 4_194_304;
 
 /// As many names are too many for a further text.
 const MOST_NAMES: u32 = 8_388_608;
 
 // The tokens of a text, or none where it has none.
 fn tokens_of(alloc: Global, names: &mut Names, text: &str) -> Result<Option<Tokens>, Memory> {
-    if text.len() > MOST || names.len() >= MOST_NAMES {
+    if text.len() > MAX_SOURCE || names.len() >= MOST_NAMES {
         return Ok(None);
     }
     match tokens(alloc, names, text.as_bytes()) {
@@ -30,12 +27,12 @@ fn tokens_of(alloc: Global, names: &mut Names, text: &str) -> Result<Option<Toke
 }
 
 // The answer, or why nothing is read.
-fn or_fault(alloc: Global, read: Result<String, Fault>) -> Result<String, Memory> {
+fn or_fault(alloc: Global, read: Result<String, ExprFault>) -> Result<String, Memory> {
     match read {
         Ok(text) => Ok(text),
-        Err(Fault::Syntax) => Ok(String::from_str(alloc, "S1")?),
-        Err(Fault::Deep) => Ok(String::from_str(alloc, "S2")?),
-        Err(Fault::Memory) => Err(Memory),
+        Err(ExprFault::S1) => Ok(String::from_str(alloc, "S1")?),
+        Err(ExprFault::S2) => Ok(String::from_str(alloc, "S2")?),
+        Err(ExprFault::Memory) => Err(Memory),
     }
 }
 
@@ -46,7 +43,7 @@ fn answer_to_text(
     asked: Asked,
     text: &str,
 ) -> Result<String, Memory> {
-    if asked.level > LAST {
+    if asked.level > TOO_DEEP {
         return Ok(String::from_str(alloc, "no question")?);
     }
     let Some(tokens) = tokens_of(alloc, names, text)? else {
@@ -71,7 +68,7 @@ fn pair_same(
     one: &str,
     other: &str,
 ) -> Result<bool, Memory> {
-    if asked.level > LAST {
+    if asked.level > TOO_DEEP {
         return Ok(false);
     }
     let mut both = text_of(alloc, one, asked.repeated)?;
@@ -89,7 +86,7 @@ fn pair_same(
     };
     match is_same(part, first) {
         Ok(same) => Ok(same),
-        Err(Fault::Memory) => Err(Memory),
+        Err(ExprFault::Memory) => Err(Memory),
         Err(_) => Ok(false),
     }
 }
@@ -103,7 +100,7 @@ fn are_same(
 ) -> Result<bool, Memory> {
     match asked.question {
         Question::Same(part) => pair_same(alloc, names, asked, part, one, other),
-        _ => plain_same(alloc, one, other),
+        _ => Ok(false),
     }
 }
 
@@ -139,7 +136,6 @@ pub fn answer(
     let row = rows.get(n).copied().unwrap_or("");
     match asked.question {
         Question::Same(_) => same_lines(alloc, names, asked, rows, row),
-        Question::Plain => same_lines(alloc, names, asked, rows, row),
         _ => {
             let text = text_of(alloc, row, asked.repeated)?;
             answer_to_text(alloc, names, asked, text.as_str())

@@ -1,5 +1,6 @@
 //! What a heading asks of the lines below it.
 
+use cxx_base::TOO_DEEP;
 use expr_show::{Part, part_named};
 use std::alloc::{AllocError, Global};
 
@@ -25,7 +26,6 @@ pub enum Question {
     Unit,
     Same(Part),
     Span(Part),
-    Plain,
 }
 
 /// The rule of the trees in which a part stands.
@@ -47,9 +47,6 @@ pub enum Repeated {
     Times(u32),
     Open(u32),
 }
-
-/// The last level that is asked of: one beyond the last of the grammar, where each rule is too deep.
-pub const LAST: u32 = 257;
 
 /// What is asked, and of which text at which level, not above 257, and from which token.
 #[derive(Clone, Copy)]
@@ -86,7 +83,6 @@ fn question_of(first: &str, second: &str) -> Option<Question> {
 // A question of one word.
 fn short_question(word: &str) -> Option<Question> {
     match word {
-        "plain" => Some(Question::Plain),
         "body" => Some(Question::Body),
         "unit" => Some(Question::Unit),
         name => Some(Question::Tree(rule_named(name)?)),
@@ -104,7 +100,7 @@ fn with_number(asked: Asked, word: &str, number: &str) -> Option<Asked> {
         "open" => asked.repeated = Repeated::Open(number),
         _ => return None,
     }
-    if asked.level <= LAST {
+    if asked.level <= TOO_DEEP {
         Some(asked)
     } else {
         None

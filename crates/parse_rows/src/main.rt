@@ -12,7 +12,6 @@
 //! - `same PART`: by their numbers, from 1, the lines below this heading whose part is the same as that of this line, each
 //!   read at another place of a text.
 //! - `span PART`: the tokens of a part and its place.
-//! - `plain`: as `same`, where a line is a plain type in words.
 //!
 //! Behind it may stand `at LEVEL`, `from TOKEN`, and `times N` or `open N`. With these last two a line is
 //! `HEAD@BEFORE@MIDDLE@BEHIND@TAIL`, of which `BEFORE` and `BEHIND` are repeated so often; where it is `open`, `BEHIND` is left

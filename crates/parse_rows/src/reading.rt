@@ -3,7 +3,7 @@
 ghost use Rattle.std.specs.Prelude.{◌<◌, ◌≤◌};
 
 use crate::asked::Rule;
-use cxx_reading::Fault;
+use cxx_reading::ExprFault;
 use cxx_tokens::Tokens;
 use expr_show::Shown;
 use parse_expr::{
@@ -20,56 +20,56 @@ pub struct Start<'a> {
     pub level: u32,
 }
 
-fn expression_from(from: Start<'_>) -> Result<(Shown, u32), Fault>
+fn expression_from(from: Start<'_>) -> Result<(Shown, u32), ExprFault>
     requires { from.level ≤ 257 }
 {
     let (x, end) = expression(from.alloc, from.tokens, from.at, from.level)?;
     Ok((Shown::Expr(x), end))
 }
 
-fn type_from(from: Start<'_>) -> Result<(Shown, u32), Fault>
+fn type_from(from: Start<'_>) -> Result<(Shown, u32), ExprFault>
     requires { from.level ≤ 257 }
 {
     let (of, end) = type_at(from.alloc, from.tokens, from.at, from.level)?;
     Ok((Shown::Type(of), end))
 }
 
-fn braced_from(from: Start<'_>) -> Result<(Shown, u32), Fault>
+fn braced_from(from: Start<'_>) -> Result<(Shown, u32), ExprFault>
     requires { from.level ≤ 257 }
 {
     let (list, end) = braced_at(from.alloc, from.tokens, from.at, from.level)?;
     Ok((Shown::Braced(list), end))
 }
 
-fn unary_from(from: Start<'_>) -> Result<(Shown, u32), Fault>
+fn unary_from(from: Start<'_>) -> Result<(Shown, u32), ExprFault>
     requires { from.level ≤ 257 }
 {
     let (x, end) = unary_at(from.alloc, from.tokens, from.at, from.level)?;
     Ok((Shown::Expr(x), end))
 }
 
-fn name_from(from: Start<'_>) -> Result<(Shown, u32), Fault>
+fn name_from(from: Start<'_>) -> Result<(Shown, u32), ExprFault>
     requires { from.level ≤ 257 }
 {
     let (name, end) = name_at(from.alloc, from.tokens, from.at, from.level)?;
     Ok((Shown::Name(name), end))
 }
 
-fn splice_from(from: Start<'_>) -> Result<(Shown, u32), Fault>
+fn splice_from(from: Start<'_>) -> Result<(Shown, u32), ExprFault>
     requires { from.level ≤ 257 }
 {
     let (splice, end) = splice_at(from.alloc, from.tokens, from.at, from.level)?;
     Ok((Shown::Splice(splice), end))
 }
 
-fn args_from(from: Start<'_>) -> Result<(Shown, u32), Fault>
+fn args_from(from: Start<'_>) -> Result<(Shown, u32), ExprFault>
     requires { from.level ≤ 257 }
 {
     let (args, end) = args_at(from.alloc, from.tokens, from.at, from.level)?;
     Ok((Shown::Args(args), end))
 }
 
-fn behind_unary(from: Start<'_>) -> Result<(Shown, u32), Fault>
+fn behind_unary(from: Start<'_>) -> Result<(Shown, u32), ExprFault>
     requires { from.level < 257 }
 {
     let (first, at) = unary_at(from.alloc, from.tokens, from.at, from.level)?;
@@ -78,7 +78,7 @@ fn behind_unary(from: Start<'_>) -> Result<(Shown, u32), Fault>
 }
 
 /// The tree that a rule reads, and the number of the token after it.
-pub fn read(rule: Rule, from: Start<'_>) -> Result<(Shown, u32), Fault>
+pub fn read(rule: Rule, from: Start<'_>) -> Result<(Shown, u32), ExprFault>
     requires { from.level ≤ 257 }
 {
     match rule {
@@ -93,7 +93,7 @@ pub fn read(rule: Rule, from: Start<'_>) -> Result<(Shown, u32), Fault>
             if from.level < 257 {
                 behind_unary(from)
             } else {
-                Err(Fault::Deep)
+                Err(ExprFault::S2)
             }
         }
     }

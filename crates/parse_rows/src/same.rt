@@ -5,12 +5,12 @@ ghost use Rattle.std.specs.Prelude.{◌≤◌};
 
 use crate::asked::rule_of;
 use crate::reading::{Start, read};
-use cxx_reading::{Fault, expect};
+use cxx_reading::{ExprFault, expect};
 use cxx_tokens::mark::SEMICOLON;
 use expr_show::{Part, Shown};
 
 /// Whether a part of the two texts is the same. `first` begins the first of them, and a `;` stands between them.
-pub fn is_same(part: Part, first: Start<'_>) -> Result<bool, Fault>
+pub fn is_same(part: Part, first: Start<'_>) -> Result<bool, ExprFault>
     requires { first.level ≤ 257 }
 {
     let (tree, end) = read(rule_of(part), first)?;
@@ -18,7 +18,7 @@ pub fn is_same(part: Part, first: Start<'_>) -> Result<bool, Fault>
 }
 
 // Reads the second text, behind the `;`, against the tree of the first.
-fn against(part: Part, first: Start<'_>, tree: &Shown, end: u32) -> Result<bool, Fault>
+fn against(part: Part, first: Start<'_>, tree: &Shown, end: u32) -> Result<bool, ExprFault>
     requires { first.level ≤ 257 }
 {
     let at = expect(first.tokens, SEMICOLON, end)?;

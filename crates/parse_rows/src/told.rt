@@ -4,12 +4,12 @@ ghost use Rattle.std.specs.Prelude.{◌≤◌};
 
 use crate::asked::{Asked, Question, Repeated, Rule, rule_of};
 use crate::reading::{Start, read};
-use cxx_base::{Names, Place, Span};
-use cxx_reading::Fault;
+use cxx_base::{MAX_NESTING, Names, Place, Span};
+use cxx_grammar::Within;
+use cxx_reading::ExprFault;
 use cxx_tokens::Tokens;
 use expr_show::{Part, Show};
-use parse_decl::{SyntaxFault, unit};
-use parse_stmt::body;
+use parse_decl::{SyntaxFault, body, unit};
 use std::alloc::{AllocError, Global};
 use tree_show::{body_text, unit_text};
 
@@ -45,7 +45,7 @@ impl Reading<'_> {
     }
 }
 
-fn tree_text(rule: Rule, spans: bool, reading: Reading<'_>) -> Result<String, Fault>
+fn tree_text(rule: Rule, spans: bool, reading: Reading<'_>) -> Result<String, ExprFault>
     requires { reading.asked.level ≤ 257 }
 {
     let start = Start {
@@ -66,14 +66,16 @@ fn tree_text(rule: Rule, spans: bool, reading: Reading<'_>) -> Result<String, Fa
     Ok(reading.printed(end, tree.text(show)?)?)
 }
 
-fn of_body(reading: Reading<'_>) -> Result<String, Fault>
+// What stands in the braces of a body is too deep at the last level, as past it.
+fn of_body(reading: Reading<'_>) -> Result<String, ExprFault>
     requires { reading.asked.level ≤ 257 }
 {
     let (tree, end) = body(
         reading.alloc,
         reading.tokens,
         reading.asked.at,
-        reading.asked.level,
+        reading.asked.level.min(MAX_NESTING),
+        Within::function(),
     )?;
     if reading.is_brief() {
         return Ok(reading.ended(end)?);
@@ -82,11 +84,11 @@ fn of_body(reading: Reading<'_>) -> Result<String, Fault>
     Ok(reading.printed(end, tree)?)
 }
 
-fn refusal(alloc: Global, code: &str, at: Place) -> Result<String, Fault> {
+fn refusal(alloc: Global, code: &str, at: Place) -> Result<String, ExprFault> {
     Ok(format!(in alloc; "{code} {}:{}", at.line, at.column)?)
 }
 
-fn of_unit(reading: Reading<'_>) -> Result<String, Fault> {
+fn of_unit(reading: Reading<'_>) -> Result<String, ExprFault> {
     match unit(reading.alloc, reading.tokens) {
         Ok(tree) => {
             if reading.is_brief() {
@@ -96,7 +98,7 @@ fn of_unit(reading: Reading<'_>) -> Result<String, Fault> {
         }
         Err(SyntaxFault::S1(at)) => refusal(reading.alloc, "S1", at),
         Err(SyntaxFault::S2(at)) => refusal(reading.alloc, "S2", at),
-        Err(SyntaxFault::Memory) => Err(Fault::Memory),
+        Err(SyntaxFault::Memory) => Err(ExprFault::Memory),
     }
 }
 
@@ -111,7 +113,7 @@ fn span_text(alloc: Global, span: Option<Span>) -> Result<String, AllocError> {
     }
 }
 
-fn of_part(part: Part, reading: Reading<'_>) -> Result<String, Fault>
+fn of_part(part: Part, reading: Reading<'_>) -> Result<String, ExprFault>
     requires { reading.asked.level ≤ 257 }
 {
     let start = Start {
@@ -125,7 +127,7 @@ fn of_part(part: Part, reading: Reading<'_>) -> Result<String, Fault>
 }
 
 /// What is told of a text.
-pub fn told(reading: Reading<'_>) -> Result<String, Fault>
+pub fn told(reading: Reading<'_>) -> Result<String, ExprFault>
     requires { reading.asked.level ≤ 257 }
 {
     match reading.asked.question {
@@ -134,7 +136,6 @@ pub fn told(reading: Reading<'_>) -> Result<String, Fault>
         Question::Body => of_body(reading),
         Question::Unit => of_unit(reading),
         Question::Span(part) => of_part(part, reading),
-        Question::Same(_) => Err(Fault::Syntax),
-        Question::Plain => Err(Fault::Syntax),
+        Question::Same(_) => Err(ExprFault::S1),
     }
 }

@@ -1,4 +1,4 @@
--- `while` and `for`: the two forms of `for` share the beginning of their heads.
+-- The two forms of `for` share the beginning of their heads.
 use Rattle.std.proofs.Common.{◌≡◌, ℕ, ◌+◌, ◌≤◌, Bool, true, false, if◌then◌else◌, ◌==◌, List, [], Option, Some, None, refl, ap, ◌∙◌, sym, arith}
 use Rattle.cxx_base.specs.declared.place.Span.{Span}
 use Rattle.cxx_tree.specs.declared.identifier.Identifier.{Identifier}
@@ -19,24 +19,26 @@ use Rattle.cxx_reading.specs.Reading.{End, Tree, No, Nothing, TooDeep, Rule, and
 use Rattle.cxx_reading.proofs.Starts.{is_false, is_that_punctuator, is_that_word, longer_nothing, no_punctuator, no_punctuator_at, no_word, word_there, optional_none}
 use Rattle.cxx_reading.proofs.Factor.{assoc, pointwise, factor}
 use Rattle.cxx_reading.proofs.Turns.{turns_none}
+use Rattle.cxx_grammar.specs.declared.within.Within.{Within}
 use Rattle.cxx_grammar.specs.Sequences.{with_next}
 use Rattle.cxx_grammar.specs.Lists.{braced}
 use Rattle.cxx_grammar.specs.Read.{read}
-use Rattle.cxx_grammar.specs.Statements.{Statements, begins_local, bound, bounds, init_equal, init_equal_braced, init_braced, init, local, assign, for_local, for_assign, for_empty, for_init, for_step, for_form, range, range_for_form}
+use Rattle.cxx_grammar.specs.Nests.{Nests, looping}
+use Rattle.cxx_grammar.specs.Locals.{begins_local, bound, bounds, init_equal, init_equal_braced, init_braced, init, local, assign}
+use Rattle.cxx_grammar.specs.Statements.{for_local, for_assign, for_empty, for_init, for_step, for_form, range, range_for_form}
 use Rattle.cxx_grammar.proofs.Begins.{no_type, no_braced}
 use Rattle.cxx_grammar.proofs.Levels.{last_type_tree, at_type_tree, at_braced}
-use Rattle.parse_stmt.specs.Joined.{local_rest, init_assign, init_empty, plain_init, step_closed, for_rest, range_rest, for_typed, for_declared, for_constexpr, for_plain, for_inner, for_stmt, for_beyond}
-use Rattle.parse_stmt.proofs.Begin.{begins_at_punctuator}
-use Rattle.parse_stmt.proofs.Assignments.{assign_last}
-use Rattle.parse_stmt.proofs.Simple.{begins_none_at_semicolon, step_closes}
+use Rattle.parse_local.specs.Joined.{local_rest}
+use Rattle.parse_local.proofs.Begin.{begins_none_at_semicolon}
+use Rattle.parse_assign.proofs.Assignments.{assign_last}
+use Rattle.parse_assign.proofs.Expressions.{below, before}
+use Rattle.parse_head.specs.declared.tree.HeadTree.{HeadTree}
+use Rattle.parse_head.specs.Joined.{first_assign, plain_first, step_closed, behind_first, over, range_rest, typed, declared, constexpr_local, undeclared, head}
+use Rattle.parse_head.proofs.Steps.{step_closes}
+use Rattle.parse_head.specs.Turned.{statement_of}
+use Rattle.parse_stmt.specs.Joined.{for_head, for_joined, for_beyond}
 
 module _ (tokens : Tokens) (level i : ℕ) (low : level ≤ 256) where
-  below : level ≤ 257
-  below = omega arith
-
-  before : level ≡ 257 → ⊥
-  before e = omega arith
-
   -- ---- no declaration goes on at ":", and no range where ":" does not stand
 
   no_bounds : kind tokens i ≡ Some (Punctuator mark.COLON) → bounds tokens level [] i ≡ Tree [] i
@@ -44,7 +46,7 @@ module _ (tokens : Tokens) (level i : ℕ) (low : level ≤ 256) where
   no_bounds e = turns_none (with_next (bound tokens level)) [] i (left tokens i) (simp (no_punctuator_at tokens i _ e mark.LEFT_BRACKET refl))
 
   no_braced_here : kind tokens i ≡ Some (Punctuator mark.COLON) → (read tokens level).braced i ≡ No Nothing
-  no_braced_here e = at_braced tokens level i below before ∙ no_braced tokens (read tokens (level + 1)) i _ e refl
+  no_braced_here e = at_braced tokens level i (below level low) (before level low) ∙ no_braced tokens (read tokens (level + 1)) i _ e refl
 
   no_init : kind tokens i ≡ Some (Punctuator mark.COLON) → init tokens level i ≡ No Nothing
   unfolding init init_equal init_equal_braced init_braced
@@ -55,18 +57,19 @@ module _ (tokens : Tokens) (level i : ℕ) (low : level ≤ 256) where
   no_local_rest start c t n e = simp (no_bounds e, optional_none (init tokens level) i (no_init e), no_punctuator_at tokens i _ e mark.SEMICOLON refl)
 
   no_type_here : kind tokens i ≡ Some (Word keyword.CONSTEXPR) → (read tokens level).type_tree i ≡ No Nothing
-  no_type_here e = at_type_tree tokens level i below before ∙ no_type tokens (read tokens (level + 1)) i _ e refl
+  no_type_here e = at_type_tree tokens level i (below level low) (before level low) ∙ no_type tokens (read tokens (level + 1)) i _ e refl
 
--- ---- behind `for (`
+-- ---- behind `for (`, where `turned` reads what is repeated
 
-module _ (tokens : Tokens) (outer level : ℕ) (low : level ≤ 256) (inner : Statements) (in_loop : Bool) (start : ℕ) where
-  abbrev turned : Rule Stmt
-  turned = inner.sub true
+module _ (tokens : Tokens) (level : ℕ) (low : level ≤ 256) (turned : Rule Stmt) (start : ℕ) where
+  -- what stands behind a head
+  abbrev behind_head : HeadTree → Rule Stmt
+  behind_head h q = and_then (turned q) (λ turn r. Tree (statement_of (span tokens start r) h turn) r)
 
   -- what stands behind the first statement of the head, in the parts of the grammar, and with the step as it is read
   abbrev after_first : ForInit → Rule Stmt
   after_first first l = and_then (optional (read tokens level).expr l) (λ condition m. and_then (punctuator tokens mark.SEMICOLON m) (λ t n.
-      and_then (optional (for_step tokens outer inner level in_loop) n) (λ step o. and_then (punctuator tokens mark.RIGHT_PAREN o) (λ u q.
+      and_then (optional (for_step tokens level) n) (λ step o. and_then (punctuator tokens mark.RIGHT_PAREN o) (λ u q.
       and_then (turned q) (λ turn r. Tree (stmt-of.For (span tokens start r) (record { first = first; condition = condition; step = step }) turn) r)))))
 
   abbrev after_first_joined : ForInit → Rule Stmt
@@ -75,10 +78,10 @@ module _ (tokens : Tokens) (outer level : ℕ) (low : level ≤ 256) (inner : St
 
   rest_joined : (first : ForInit) (l : ℕ) → after_first first l ≡ after_first_joined first l
   rest_joined first l = pointwise (optional (read tokens level).expr l) _ _ (λ condition m. pointwise (punctuator tokens mark.SEMICOLON m) _ _ (λ t n.
-      step_closes tokens outer level n low inner in_loop (λ step q. and_then (turned q) (λ turn r. Tree (stmt-of.For (span tokens start r) (record { first = first; condition = condition; step = step }) turn) r))))
+      step_closes tokens level n low (λ step q. and_then (turned q) (λ turn r. Tree (stmt-of.For (span tokens start r) (record { first = first; condition = condition; step = step }) turn) r))))
 
-  rest_is : (first : ForInit) (l : ℕ) → after_first first l ≡ for_rest tokens level turned start first l
-  unfolding for_rest
+  rest_is : (first : ForInit) (l : ℕ) → after_first first l ≡ and_then (behind_first tokens level first l) behind_head
+  unfolding behind_first
   rest_is first l = rest_joined first l ∙ sym (simp assoc)
 
   abbrev after_range : ForRange → Rule Stmt
@@ -86,15 +89,15 @@ module _ (tokens : Tokens) (outer level : ℕ) (low : level ≤ 256) (inner : St
 
   -- both forms
   abbrev both : ℕ → End Stmt
-  both k = longer (and_then (for_init tokens outer inner level in_loop k) after_first) (and_then (range tokens outer inner level in_loop k) after_range)
+  both k = longer (and_then (for_init tokens level k) after_first) (and_then (range tokens level k) after_range)
 
   module _ (k : ℕ) where
     -- ---- where a declaration begins
 
     no_semicolon : begins_local tokens k ≡ true → is_punctuator mark.SEMICOLON (kind tokens k) ≡ false
-    no_semicolon b = is_false _ (λ h. let e : begins_local tokens k ≡ false = begins_none_at_semicolon tokens level k low inner (is_that_punctuator mark.SEMICOLON (kind tokens k) h) in cc)
+    no_semicolon b = is_false _ (λ h. let e : begins_local tokens k ≡ false = begins_none_at_semicolon tokens k (is_that_punctuator mark.SEMICOLON (kind tokens k) h) in cc)
 
-    init_local : begins_local tokens k ≡ true → for_init tokens outer inner level in_loop k ≡ and_then (local tokens level k) (λ x j. Tree (for-init-of.Local x) j)
+    init_local : begins_local tokens k ≡ true → for_init tokens level k ≡ and_then (local tokens level k) (λ x j. Tree (for-init-of.Local x) j)
     unfolding for_init for_local for_assign for_empty
     init_local b = simp (b, no_punctuator_at tokens k _ refl mark.SEMICOLON (no_semicolon b), longer_nothing)
 
@@ -103,66 +106,67 @@ module _ (tokens : Tokens) (outer level : ℕ) (low : level ≤ 256) (inner : St
     unfolding local local_rest present
     local_typed c = simp (no_word tokens k keyword.CONSTEXPR c, assoc)
 
-    inner_constexpr : begins_local tokens k ≡ true → is_word keyword.CONSTEXPR (kind tokens k) ≡ true → both k ≡ for_inner tokens level turned start k
-    unfolding range for_inner for_constexpr
+    inner_constexpr : begins_local tokens k ≡ true → is_word keyword.CONSTEXPR (kind tokens k) ≡ true → both k ≡ and_then (head tokens level k) behind_head
+    unfolding range head constexpr_local
     inner_constexpr b c = simp (init_local b, b, c, no_type_here tokens level k low (is_that_word keyword.CONSTEXPR (kind tokens k) c), longer_nothing, assoc)
         (pointwise (local tokens level k) _ _ (λ x j. rest_is (for-init-of.Local x) j))
 
     typed_rest : (t : TypeTree) (n : Identifier) (l : ℕ) (c : Bool) → is_punctuator mark.COLON (kind tokens l) ≡ c
         → longer (and_then (local_rest tokens level k false t n l) (λ x. after_first (for-init-of.Local x)))
-        (and_then (punctuator tokens mark.COLON l) (λ u m. and_then ((read tokens level).expr m) (λ over q. after_range (record { of_type = t; name = n; over = over }) q)))
-        ≡ for_typed tokens level turned start k t n l
-    unfolding for_typed range_rest
+        (and_then (punctuator tokens mark.COLON l) (λ u m. and_then ((read tokens level).expr m) (λ o q. after_range (record { of_type = t; name = n; over = o }) q)))
+        ≡ and_then (typed tokens level k false t n l) behind_head
+    unfolding typed range_rest over
     typed_rest t n l true c = simp (c, no_local_rest tokens level l low k false t n (is_that_punctuator mark.COLON (kind tokens l) c)) (sym (simp assoc))
-    typed_rest t n l false c = simp (c, no_punctuator tokens l mark.COLON c, longer_nothing) (pointwise (local_rest tokens level k false t n l) _ _ (λ x j. rest_is (for-init-of.Local x) j))
+    typed_rest t n l false c = simp (c, no_punctuator tokens l mark.COLON c, longer_nothing, assoc) (pointwise (local_rest tokens level k false t n l) _ _ (λ x j. rest_is (for-init-of.Local x) j))
 
-    inner_declared : begins_local tokens k ≡ true → is_word keyword.CONSTEXPR (kind tokens k) ≡ false → both k ≡ for_inner tokens level turned start k
-    unfolding range for_inner for_declared
+    inner_declared : begins_local tokens k ≡ true → is_word keyword.CONSTEXPR (kind tokens k) ≡ false → both k ≡ and_then (head tokens level k) behind_head
+    unfolding range head declared
     inner_declared b c = simp (init_local b, b, c, local_typed c, assoc, factor)
         (pointwise ((read tokens level).type_tree k) _ _ (λ t j. pointwise (identifier tokens j) _ _ (λ n l. typed_rest t n l (is_punctuator mark.COLON (kind tokens l)) refl)))
 
     -- ---- where none does
 
-    inner_plain : begins_local tokens k ≡ false → both k ≡ for_inner tokens level turned start k
-    unfolding for_init for_local for_assign for_empty range for_inner for_plain plain_init init_assign init_empty
-    inner_plain b = simp (b, longer_nothing) (pointwise (plain_init tokens level k) _ _ (λ x j. rest_is x j))
+    inner_plain : begins_local tokens k ≡ false → both k ≡ and_then (head tokens level k) behind_head
+    unfolding for_init for_local for_assign range head undeclared plain_first first_assign
+    inner_plain b = simp (b, longer_nothing, assoc) (pointwise (plain_first tokens level k) _ _ (λ x j. rest_is x j))
 
-    inner_by : (b c : Bool) → begins_local tokens k ≡ b → is_word keyword.CONSTEXPR (kind tokens k) ≡ c → both k ≡ for_inner tokens level turned start k
+    pub inner_by : (b c : Bool) → begins_local tokens k ≡ b → is_word keyword.CONSTEXPR (kind tokens k) ≡ c → both k ≡ and_then (head tokens level k) behind_head
     inner_by true true b c = inner_constexpr b c
     inner_by true false b c = inner_declared b c
     inner_by false c b e = inner_plain b
 
-  for_is : longer (for_form tokens outer inner level in_loop start) (range_for_form tokens outer inner level in_loop start) ≡ for_stmt tokens level turned start
-  unfolding for_form range_for_form for_stmt
+module _ (tokens : Tokens) (level : ℕ) (low : level ≤ 256) (inner : Nests) (within : Within) (start : ℕ) where
+  for_is : longer (for_form tokens level inner within start) (range_for_form tokens level inner within start) ≡ for_joined tokens level (inner.sub (looping within)) start
+  unfolding for_form range_for_form for_joined for_head
   for_is = simp (assoc, factor) (pointwise (word tokens keyword.FOR start) _ _ (λ t j. pointwise (punctuator tokens mark.LEFT_PAREN j) _ _
-      (λ u k. inner_by k (begins_local tokens k) (is_word keyword.CONSTEXPR (kind tokens k)) refl refl)))
+      (λ u k. inner_by tokens level low (inner.sub (looping within)) start k (begins_local tokens k) (is_word keyword.CONSTEXPR (kind tokens k)) refl refl)))
 
 -- ---- at the last level
 
-module _ (tokens : Tokens) (outer level : ℕ) (last : level ≡ 257) (inner : Statements) (in_loop : Bool) where
+module _ (tokens : Tokens) (level : ℕ) (last : level ≡ 257) (inner : Nests) (within : Within) where
   last_local_by : (k : ℕ) (c : Bool) → is_word keyword.CONSTEXPR (kind tokens k) ≡ c → local tokens level k ≡ No TooDeep
   unfolding local present
   last_local_by k true c = simp (word_there tokens k keyword.CONSTEXPR c, last_type_tree tokens level (k + 1) last)
   last_local_by k false c = simp (no_word tokens k keyword.CONSTEXPR c, last_type_tree tokens level k last)
 
-  last_init : (k : ℕ) (b : Bool) → begins_local tokens k ≡ b → for_init tokens outer inner level in_loop k ≡ No TooDeep
+  last_init : (k : ℕ) (b : Bool) → begins_local tokens k ≡ b → for_init tokens level k ≡ No TooDeep
   unfolding for_init for_local for_assign
   last_init k true b = simp (b, last_local_by k (is_word keyword.CONSTEXPR (kind tokens k)) refl)
   last_init k false b = simp (b, assign_last tokens level k last)
 
-  last_inner : {A : Type 0} (k : ℕ) (f : ForInit → Rule A) (e : End A) → longer (and_then (for_init tokens outer inner level in_loop k) f) e ≡ No TooDeep
+  last_inner : {A : Type 0} (k : ℕ) (f : ForInit → Rule A) (e : End A) → longer (and_then (for_init tokens level k) f) e ≡ No TooDeep
   last_inner k f e = simp (last_init k (begins_local tokens k) refl)
 
-  for_is_beyond : (start : ℕ) → longer (for_form tokens outer inner level in_loop start) (range_for_form tokens outer inner level in_loop start) ≡ for_beyond tokens start
+  for_is_beyond : (start : ℕ) → longer (for_form tokens level inner within start) (range_for_form tokens level inner within start) ≡ for_beyond tokens start
   unfolding for_form range_for_form for_beyond
   for_is_beyond start = simp (assoc, factor) (pointwise (word tokens keyword.FOR start) _ _ (λ t j. pointwise (punctuator tokens mark.LEFT_PAREN j) _ _ (λ u k. last_inner k _ _)))
 
 -- in the words of the function that reads both
-module _ (tokens : Tokens) (outer level : ℕ) (inner : Statements) (in_loop : Bool) (start : ℕ) where
-  pub for_stmt_is : level ≤ 257 → (level ≡ 257 → ⊥) → longer (for_form tokens outer inner level in_loop start) (range_for_form tokens outer inner level in_loop start) ≡ for_stmt tokens level (inner.sub true) start
-  for_stmt_is low other = let h : level ≤ 256 = omega arith in for_is tokens outer level h inner in_loop start
+module _ (tokens : Tokens) (level : ℕ) (inner : Nests) (within : Within) (start : ℕ) where
+  pub for_joined_is : level ≤ 257 → (level ≡ 257 → ⊥) → longer (for_form tokens level inner within start) (range_for_form tokens level inner within start) ≡ for_joined tokens level (inner.sub (looping within)) start
+  for_joined_is low other = let h : level ≤ 256 = omega arith in for_is tokens level h inner within start
 
-  pub for_beyond_is : level ≡ 257 → longer (for_form tokens outer inner level in_loop start) (range_for_form tokens outer inner level in_loop start) ≡ for_beyond tokens start
-  for_beyond_is last = for_is_beyond tokens outer level last inner in_loop start
+  pub for_beyond_is : level ≡ 257 → longer (for_form tokens level inner within start) (range_for_form tokens level inner within start) ≡ for_beyond tokens start
+  for_beyond_is last = for_is_beyond tokens level last inner within start
 
-pub ruleset for_arms = (for_stmt_is, for_beyond_is)
+pub ruleset for_arms = (for_joined_is, for_beyond_is)

@@ -1,6 +1,4 @@
-mod Assignments
-mod Begin
+mod BracketArms
+mod Conditions
 mod ForForms
-mod Levels
-mod Simple
 mod StatementArms

@@ -1,34 +1,12 @@
-//! The parser of statements, with the parts of them that declarations have too: each rule gives at each token and level
-//! exactly what the grammar says.
-//!
-//! A statement that nests calls its next level through functions that its reader is handed. The two of them hand each other
-//! on, and count the levels.
+//! The parser of statements: each rule gives at each token and level exactly what the grammar says. What nests is read by what a
+//! parser is handed.
 #![tactic(auto)]
 
-mod alias;
-mod assertion;
-mod assign;
-mod begins;
-mod beyond;
+mod braces;
 mod branch;
 mod choice;
-mod dimensions;
-mod fit;
-mod forms;
-mod initializer;
-mod local;
-mod loops;
-mod nested;
-mod operators;
-mod reader;
-mod side_rule;
-mod top;
+mod look;
+mod other;
+mod repeat;
 
-pub use alias::alias_at;
-pub use assertion::assert_at;
-pub use dimensions::bounds;
-pub use fit::fit_bounds;
-pub use initializer::init;
-pub use local::init_if_any;
-pub use side_rule::allowed;
-pub use top::body;
+pub use choice::{stmt, sub};

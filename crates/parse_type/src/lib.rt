@@ -6,11 +6,9 @@
 
 mod fundamental;
 mod names;
-mod reader;
 mod types;
 mod words;
 
 pub use fundamental::fund;
 pub use names::{name, part, parts, vector_head};
-pub use reader::TypeReader;
-pub use types::{basic_vector, pointers};
+pub use types::{basic_vector, pointers, splice, type_tree};

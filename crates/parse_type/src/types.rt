@@ -3,21 +3,22 @@
 ghost use Rattle.cxx_grammar.specs.Read.{read};
 ghost use Rattle.cxx_grammar.specs.Types as spec;
 ghost use Rattle.cxx_reading.specs.Reading.{Gives};
-ghost use Rattle.cxx_reading.specs.Readers.{Reader};
 
 use crate::fundamental::fund;
 use crate::names::{name, vector_head};
-use crate::reader::TypeReader;
 use containers::{Boxed, Items};
-use cxx_reading::{Fault, Seen, eat, eat_word, expect, expect_word, kind_at, left, span};
+use cxx_reading::{
+    ExprFault, Reader, Seen, eat, eat_word, expect, expect_word, kind_at, repeat, span,
+};
 use cxx_tokens::Tokens;
 use cxx_tokens::keyword::{CONST, TYPENAME};
 use cxx_tokens::mark::{AMPERSAND, GREATER, LEFT_SPLICE, RIGHT_SPLICE, STAR};
-use cxx_tree::{BasicTree, Expr, SpliceTree, TypeTree};
+use cxx_tree::{BasicTree, SpliceTree, TypeTree};
+use parse_level::{Deeper, deep_expr};
 use std::alloc::Global;
 
 #[tactic(auto, unfolding(cxx_grammar::specs::Types::pointer))]
-fn pointer(tokens: &Tokens, at: u32) -> Result<(bool, u32), Fault>
+fn pointer(tokens: &Tokens, at: u32) -> Result<(bool, u32), ExprFault>
     ensures { Gives (spec.pointer tokens.now at) result }
 {
     let at = expect(tokens, STAR, at)?;
@@ -25,30 +26,20 @@ fn pointer(tokens: &Tokens, at: u32) -> Result<(bool, u32), Fault>
 }
 
 /// The marks of pointers behind a type, added to those found.
-#[tactic(auto, unfolding(cxx_grammar::specs::Types::pointers), using(cxx_reading::proofs::Turns::loops))]
+#[tactic(auto, unfolding(cxx_grammar::specs::Types::pointers))]
 pub fn pointers(
+    alloc: Global,
     tokens: &Tokens,
-    mut found: Items<bool>,
-    mut at: u32,
-) -> Result<(Items<bool>, u32), Fault>
+    found: Items<bool>,
+    at: u32,
+) -> Result<(Items<bool>, u32), ExprFault>
     ensures { Gives (spec.pointers tokens.now found at) result }
 {
-    for _turn in 0..left(tokens, at) {
-        match pointer(tokens, at) {
-            Ok((is_const, after)) => {
-                found.push(is_const)?;
-                at = after;
-            }
-            Err(Fault::Syntax) => return Ok((found, at)),
-            Err(Fault::Deep) => return Err(Fault::Deep),
-            Err(Fault::Memory) => return Err(Fault::Memory),
-        }
-    }
-    Ok((found, at))
+    repeat(alloc, tokens, |at| pointer(tokens, at), found, at)
 }
 
 #[tactic(auto, unfolding(cxx_grammar::specs::Types::basic_fund))]
-fn basic_fund(tokens: &Tokens, start: u32) -> Result<(BasicTree, u32), Fault>
+fn basic_fund(tokens: &Tokens, start: u32) -> Result<(BasicTree, u32), ExprFault>
     ensures { Gives (spec.basic_fund tokens.now start) result }
 {
     let (fund, end) = fund(tokens, start)?;
@@ -56,7 +47,7 @@ fn basic_fund(tokens: &Tokens, start: u32) -> Result<(BasicTree, u32), Fault>
 }
 
 #[tactic(auto, unfolding(cxx_grammar::specs::Types::basic_name))]
-fn basic_name(alloc: Global, tokens: &Tokens, start: u32) -> Result<(BasicTree, u32), Fault>
+fn basic_name(alloc: Global, tokens: &Tokens, start: u32) -> Result<(BasicTree, u32), ExprFault>
     ensures { Gives (spec.basic_name tokens.now start) result }
 {
     let (name, end) = name(alloc, tokens, start)?;
@@ -65,7 +56,11 @@ fn basic_name(alloc: Global, tokens: &Tokens, start: u32) -> Result<(BasicTree, 
 
 /// The type of a vector.
 #[tactic(auto, unfolding(cxx_grammar::specs::Types::basic_vector))]
-pub fn basic_vector(alloc: Global, tokens: &Tokens, start: u32) -> Result<(BasicTree, u32), Fault>
+pub fn basic_vector(
+    alloc: Global,
+    tokens: &Tokens,
+    start: u32,
+) -> Result<(BasicTree, u32), ExprFault>
     ensures { Gives (spec.basic_vector tokens.now start) result }
 {
     let at = vector_head(tokens, start)?;
@@ -74,84 +69,82 @@ pub fn basic_vector(alloc: Global, tokens: &Tokens, start: u32) -> Result<(Basic
     Ok((BasicTree::Vector(span(tokens, start, end), of), end))
 }
 
-impl<E: Fn(Global, &Tokens, u32, u32) -> Result<(Expr, u32), Fault>> TypeReader<'_, E> {
-    /// An expression one level deeper.
-    pub fn deep_expr(&self, at: u32) -> Result<(Expr, u32), Fault>
-        requires exprs { Reader self.now.tokens.now self.now.level (read self.now.tokens.now self.now.level).expr (E.pre self.now.expr) (E.post self.now.expr) }
-        ensures { Gives ((read self.now.tokens.now self.now.level).expr at) result }
-    {
-        (self.expr)(self.alloc, self.tokens, at, self.level)
-    }
+/// A splice, as the grammar says.
+#[inline(never)]
+#[tactic(auto, unfolding(cxx_grammar::specs::Types::splice))]
+pub fn splice<D: Deeper>(reader: &Reader<'_, D>, start: u32) -> Result<(SpliceTree, u32), ExprFault>
+    requires { D.ready reader.now.deeper reader.now.tokens.now reader.now.level }
+    ensures { Gives (spec.splice reader.now.tokens.now (read reader.now.tokens.now reader.now.level) start) result }
+{
+    let at = expect(reader.tokens, LEFT_SPLICE, start)?;
+    let (inner, at) = deep_expr(reader, at)?;
+    let end = expect(reader.tokens, RIGHT_SPLICE, at)?;
+    let inner = Boxed::new(reader.alloc, inner)?;
+    Ok((
+        SpliceTree::Splice(span(reader.tokens, start, end), inner),
+        end,
+    ))
+}
 
-    /// A splice, as the grammar says.
-    #[tactic(auto, unfolding(cxx_grammar::specs::Types::splice))]
-    pub fn splice(&self, start: u32) -> Result<(SpliceTree, u32), Fault>
-        requires exprs { Reader self.now.tokens.now self.now.level (read self.now.tokens.now self.now.level).expr (E.pre self.now.expr) (E.post self.now.expr) }
-        ensures { Gives (spec.splice self.now.tokens.now (read self.now.tokens.now self.now.level) start) result }
-    {
-        let at = expect(self.tokens, LEFT_SPLICE, start)?;
-        let (inner, at) = self.deep_expr(at)?;
-        let end = expect(self.tokens, RIGHT_SPLICE, at)?;
-        let inner = Boxed::new(self.alloc, inner)?;
-        Ok((
-            SpliceTree::Splice(span(self.tokens, start, end), inner),
-            end,
-        ))
-    }
+#[tactic(auto, unfolding(cxx_grammar::specs::Types::basic_typename))]
+fn basic_typename<D: Deeper>(
+    reader: &Reader<'_, D>,
+    start: u32,
+) -> Result<(BasicTree, u32), ExprFault>
+    requires { D.ready reader.now.deeper reader.now.tokens.now reader.now.level }
+    ensures { Gives (spec.basic_typename reader.now.tokens.now (read reader.now.tokens.now reader.now.level) start) result }
+{
+    let at = expect_word(reader.tokens, TYPENAME, start)?;
+    let (inner, end) = splice(reader, at)?;
+    Ok((
+        BasicTree::Typename(span(reader.tokens, start, end), inner),
+        end,
+    ))
+}
 
-    #[tactic(auto, unfolding(cxx_grammar::specs::Types::basic_typename))]
-    fn basic_typename(&self, start: u32) -> Result<(BasicTree, u32), Fault>
-        requires exprs { Reader self.now.tokens.now self.now.level (read self.now.tokens.now self.now.level).expr (E.pre self.now.expr) (E.post self.now.expr) }
-        ensures { Gives (spec.basic_typename self.now.tokens.now (read self.now.tokens.now self.now.level) start) result }
-    {
-        let at = expect_word(self.tokens, TYPENAME, start)?;
-        let (inner, end) = self.splice(at)?;
-        Ok((
-            BasicTree::Typename(span(self.tokens, start, end), inner),
-            end,
-        ))
-    }
-
-    #[tactic(auto, using(cxx_grammar::proofs::TypeArms::basic_arms))]
-    fn basic(&self, start: u32) -> Result<(BasicTree, u32), Fault>
-        requires exprs { Reader self.now.tokens.now self.now.level (read self.now.tokens.now self.now.level).expr (E.pre self.now.expr) (E.post self.now.expr) }
-        ensures { Gives (spec.basic self.now.tokens.now (read self.now.tokens.now self.now.level) start) result }
-    {
-        match kind_at(self.tokens, start) {
-            Some(Seen::Identifier) => match vector_head(self.tokens, start) {
-                Ok(_) => basic_vector(self.alloc, self.tokens, start),
-                Err(_) => basic_name(self.alloc, self.tokens, start),
-            },
-            Some(Seen::Punctuator(_)) => basic_name(self.alloc, self.tokens, start),
-            Some(Seen::Word(word)) => {
-                if word == TYPENAME {
-                    self.basic_typename(start)
-                } else {
-                    basic_fund(self.tokens, start)
-                }
+#[tactic(auto, using(cxx_grammar::proofs::TypeArms::basic_arms))]
+fn basic<D: Deeper>(reader: &Reader<'_, D>, start: u32) -> Result<(BasicTree, u32), ExprFault>
+    requires { D.ready reader.now.deeper reader.now.tokens.now reader.now.level }
+    ensures { Gives (spec.basic reader.now.tokens.now (read reader.now.tokens.now reader.now.level) start) result }
+{
+    match kind_at(reader.tokens, start) {
+        Some(Seen::Identifier) => match vector_head(reader.tokens, start) {
+            Ok(_) => basic_vector(reader.alloc, reader.tokens, start),
+            Err(_) => basic_name(reader.alloc, reader.tokens, start),
+        },
+        Some(Seen::Punctuator(_)) => basic_name(reader.alloc, reader.tokens, start),
+        Some(Seen::Word(word)) => {
+            if word == TYPENAME {
+                basic_typename(reader, start)
+            } else {
+                basic_fund(reader.tokens, start)
             }
-            Some(Seen::Integer) => Err(Fault::Syntax),
-            Some(Seen::Character) => Err(Fault::Syntax),
-            Some(Seen::Text) => Err(Fault::Syntax),
-            None => Err(Fault::Syntax),
         }
+        Some(Seen::Integer) => Err(ExprFault::S1),
+        Some(Seen::Character) => Err(ExprFault::S1),
+        Some(Seen::Text) => Err(ExprFault::S1),
+        None => Err(ExprFault::S1),
     }
+}
 
-    /// A type, as the grammar says.
-    #[tactic(auto, unfolding(cxx_grammar::specs::Types::type_tree))]
-    pub fn type_tree(&self, start: u32) -> Result<(TypeTree, u32), Fault>
-        requires exprs { Reader self.now.tokens.now self.now.level (read self.now.tokens.now self.now.level).expr (E.pre self.now.expr) (E.post self.now.expr) }
-        ensures { Gives (spec.type_tree self.now.tokens.now (read self.now.tokens.now self.now.level) start) result }
-    {
-        let (before, at) = eat_word(self.tokens, CONST, start);
-        let (basic, at) = self.basic(at)?;
-        let (after, at) = eat_word(self.tokens, CONST, at);
-        let (pointers, at) = pointers(self.tokens, Items::new(self.alloc), at)?;
-        let (reference, end) = eat(self.tokens, AMPERSAND, at);
-        let span = span(self.tokens, start, end);
-        Ok((
-            TypeTree::Type(span, before || after, basic, pointers, reference),
-            end,
-        ))
-    }
+/// A type, as the grammar says.
+#[inline(never)]
+#[tactic(auto, unfolding(cxx_grammar::specs::Types::type_tree))]
+pub fn type_tree<D: Deeper>(
+    reader: &Reader<'_, D>,
+    start: u32,
+) -> Result<(TypeTree, u32), ExprFault>
+    requires { D.ready reader.now.deeper reader.now.tokens.now reader.now.level }
+    ensures { Gives (spec.type_tree reader.now.tokens.now (read reader.now.tokens.now reader.now.level) start) result }
+{
+    let (before, at) = eat_word(reader.tokens, CONST, start);
+    let (basic, at) = basic(reader, at)?;
+    let (after, at) = eat_word(reader.tokens, CONST, at);
+    let (pointers, at) = pointers(reader.alloc, reader.tokens, Items::new(reader.alloc), at)?;
+    let (reference, end) = eat(reader.tokens, AMPERSAND, at);
+    let span = span(reader.tokens, start, end);
+    Ok((
+        TypeTree::Type(span, before || after, basic, pointers, reference),
+        end,
+    ))
 }

@@ -1,5 +1,5 @@
 -- The laws of trees: one after the other, and handled.
-use Rattle.std.proofs.Common.{◌≡◌, ℕ, zero, suc, refl, ap}
+use Rattle.std.proofs.Common.{◌≡◌, ℕ, zero, suc, ◌+◌, refl, ap, ◌∙◌, arith}
 use Rattle.read_trees.specs.Trees.{ReadTree, Goes, Stops, Pays, Reads, Asks, pays, and_then, handled}
 
 module _ {Q R O E A B C : Type 0} where
@@ -19,6 +19,12 @@ module _ {Q R O E A : Type 0} where
   ends_itself (Pays t) = ap Pays (ends_itself t)
   ends_itself (Reads j g) = λ i. Reads j (λ o. ends_itself (g o) i)
   ends_itself (Asks q g) = λ i. Asks q (λ r. ends_itself (g r) i)
+
+module _ {Q R O E A : Type 0} where
+  -- steps add up
+  pub pays_more : (n m : ℕ) (t : ReadTree Q R O E A) → pays (n + m) t ≡ pays n (pays m t)
+  pays_more zero m t = let e : zero + m ≡ m = omega arith in ap (λ (x : ℕ). pays x t) e
+  pays_more (suc n) m t = let e : suc n + m ≡ suc (n + m) = omega arith in ap (λ (x : ℕ). pays x t) e ∙ ap Pays (pays_more n m t)
 
 module _ {Q R O E A B : Type 0} where
   -- steps come first

@@ -55,6 +55,28 @@ module _ {O B : Type 0} (F T : Facts O) where
   pub same_run : (t : Closed O B) → SameFirst F T (length (reads_of F [] t)) (reads_of F [] t) → run T t ≡ run F t
   same_run t h = same_run_seen t [] (seen_none F T) h
 
+-- They read the same pieces, too.
+module _ {O B : Type 0} (F T : Facts O) where
+  module _ (j : ℕ) (g : O → Closed O B) (same : (o : O) (s : List ℕ) → SameSeen F T s → SameFirst F T (length (reads_of F s (g o))) (reads_of F s (g o)) → reads_of T s (g o) ≡ reads_of F s (g o)) where
+    same_on : (p : Option O) (s : List ℕ) → T j ≡ p → SameSeen F T s → SameFirst F T (length (reads_on F g s p)) (reads_on F g s p) → reads_on T g s (T j) ≡ reads_on F g s p
+    same_on None s e k h = ap (reads_on T g s) e
+    same_on (Some o) s e k h = ap (reads_on T g s) e ∙ same o s k h
+
+    same_new_reads : (b : Bool) (s : List ℕ) → is_among j s ≡ b → SameSeen F T s → SameFirst F T (length (and_new b j s (λ s. reads_on F g s (F j)))) (and_new b j s (λ s. reads_on F g s (F j)))
+        → and_new b j s (λ s. reads_on T g s (T j)) ≡ and_new b j s (λ s. reads_on F g s (F j))
+    same_new_reads true s e k h = same_on (F j) s (k j e) k h
+    same_new_reads false s e k h = let q = h 0 (omega arith) in ap (λ rs. j ∷ rs) (same_on (F j) (j ∷ s) q (seen_more F T j s q k) (λ i l. h (suc i) (omega arith)))
+
+  same_reads_seen : (t : Closed O B) (s : List ℕ) → SameSeen F T s → SameFirst F T (length (reads_of F s t)) (reads_of F s t) → reads_of T s t ≡ reads_of F s t
+  same_reads_seen (Goes b) s k h = refl
+  same_reads_seen (Stops e) s k h = absurd e
+  same_reads_seen (Pays t) s k h = same_reads_seen t s k h
+  same_reads_seen (Reads j g) s k h = same_new_reads j g (λ o s. same_reads_seen (g o) s) (is_among j s) s refl k h
+  same_reads_seen (Asks q g) s k h = absurd q
+
+  pub same_reads : (t : Closed O B) → SameFirst F T (length (reads_of F [] t)) (reads_of F [] t) → reads_of T [] t ≡ reads_of F [] t
+  same_reads t h = same_reads_seen t [] (seen_none F T) h
+
 -- Where they know the first n and not the one behind, that is what is read next.
 module _ {O B : Type 0} (F T : Facts O) where
   abbrev pub ReadsNext : ℕ → List ℕ → Closed O B → Type 0

@@ -6,16 +6,16 @@ use Rattle.read_trees.specs.Loops.{folded, first, each}
 use Rattle.read_trees.specs.Walks.{Facts}
 use Rattle.read_trees.specs.Runs.{Closed, Ended, Lacks, run, reads_of, below}
 
--- what an outcome has for those that read it
+-- what an outcome has for those that read it: no outcome that can be read is 1
 abbrev has : ℕ → Option ℕ
-has o = if o == 0 then None else Some o
+has o = if o == 1 then None else Some o
 
 abbrev fetch : ℕ → ReadTree ℕ ℕ ℕ ℕ ℕ
-fetch j = fetched has (λ j. 90 + j) j
+fetch j = fetched (λ o. o == 0) has (λ j. 90 + j) 80 j
 
--- piece 0 came to 5, piece 1 to 7, piece 2 was refused, piece 3 is not known
+-- piece 0 came to 5, piece 1 to 7, piece 2 was refused, pieces 3 and 4 are not known, piece 5 came to what no piece can
 abbrev some_facts : Facts ℕ
-some_facts j = if j == 0 then Some 5 else if j == 1 then Some 7 else if j == 2 then Some 0 else None
+some_facts j = if j == 0 then Some 5 else if j == 1 then Some 7 else if j == 2 then Some 0 else if j == 5 then Some 1 else None
 
 -- its questions answered, the number of them kept, a refusal as a result
 abbrev settled : ReadTree ℕ ℕ ℕ ℕ ℕ → Closed ℕ (ℕ × ℕ)
@@ -32,6 +32,9 @@ sum_is_known = refl
 
 refused_piece_is_named : run some_facts (settled (sum_of 2 1)) ≡ Ended (92, 0) 0
 refused_piece_is_named = refl
+
+unfit_piece_is_told_apart : run some_facts (settled (sum_of 0 5)) ≡ Ended (80, 0) 0
+unfit_piece_is_told_apart = refl
 
 -- what stands behind a refusal is not read
 nothing_behind_a_refusal : reads_of some_facts [] (settled (sum_of 2 3)) ≡ 2 ∷ []

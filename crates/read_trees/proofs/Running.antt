@@ -27,6 +27,27 @@ module _ {O B : Type 0} (F : Facts O) where
   run_walks (Reads j g) u n (inr w) = ap (λ p. by_fact (Lacks j 0) p (λ o. run F (g o))) w.1 ∙ run_walks (g w.0) u n w.2
   run_walks (Asks q g) u n w = absurd q
 
+-- Only what is not known is lacked.
+module _ {O B : Type 0} (F : Facts O) where
+  abbrev pub LacksUnknown : Came B → Type 0
+  LacksUnknown (Ended b n) = Unit {0}
+  LacksUnknown (Lacks j n) = F j ≡ None
+
+  unknown_later : (c : Came B) → LacksUnknown c → LacksUnknown (later 1 c)
+  unknown_later (Ended b n) h = tt
+  unknown_later (Lacks j n) h = h
+
+  unknown_fact : (j : ℕ) (g : O → Closed O B) → ((o : O) → LacksUnknown (run F (g o))) → (p : Option O) → F j ≡ p → LacksUnknown (by_fact (Lacks j 0) p (λ o. run F (g o)))
+  unknown_fact j g h None e = e
+  unknown_fact j g h (Some o) e = h o
+
+  pub lacks_unknown : (t : Closed O B) → LacksUnknown (run F t)
+  lacks_unknown (Goes b) = tt
+  lacks_unknown (Stops e) = absurd e
+  lacks_unknown (Pays t) = unknown_later (run F t) (lacks_unknown t)
+  lacks_unknown (Reads j g) = unknown_fact j g (λ o. lacks_unknown (g o)) (F j) refl
+  lacks_unknown (Asks q g) = absurd q
+
 -- One after the other: the second from where the first ended.
 module _ {O A B : Type 0} (F : Facts O) (f : A → Closed O B) where
   abbrev pub run_on : Came A → Came B

@@ -1,5 +1,5 @@
 -- Definitions as trees of what is left to do.
-use Rattle.std.specs.Prelude.{ℕ, zero, suc, Option, Some, None}
+use Rattle.std.specs.Prelude.{ℕ, zero, suc, Bool, true, false, Option, Some, None}
 
 -- What is left of a definition. Q are questions and R their answers, O is what a piece comes to, E a refusal, A a result.
 pub data ReadTree (Q R O E A : Type 0) : Type 0 where
@@ -33,10 +33,16 @@ module _ {Q R O E A : Type 0} where
   found_or e None = Stops e
   found_or e (Some a) = Goes a
 
-  -- What the piece j has for those that read it, or the refusal that names j. `has` says what that is of an outcome, and that a
-  -- refused one has nothing.
-  abbrev pub fetched : (O → Option A) → (ℕ → E) → ℕ → ReadTree Q R O E A
-  fetched has refused j = Reads j (λ o. found_or (refused j) (has o))
+  -- what an outcome has for those that read it: the first refusal where its piece was refused, the second where the outcome has another
+  -- form than the piece can have
+  abbrev pub held : E → E → Bool → Option A → ReadTree Q R O E A
+  held refused unfit true x = Stops refused
+  held refused unfit false x = found_or unfit x
+
+  -- What the piece j has for those that read it. `is_refused` and `has` say of an outcome whether its piece was refused, and what is
+  -- read of it; the refusal of the reader names j.
+  abbrev pub fetched : (O → Bool) → (O → Option A) → (ℕ → E) → E → ℕ → ReadTree Q R O E A
+  fetched is_refused has refused unfit j = Reads j (λ o. held (refused j) unfit (is_refused o) (has o))
 
 module _ {Q R O E A B : Type 0} where
   -- one after the other, the second by the result of the first

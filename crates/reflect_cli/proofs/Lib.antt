@@ -4,6 +4,5 @@ pub mod Lines
 pub mod Links
 pub mod Refusals
 pub mod Rows
-pub mod StdName
 pub mod Trees
 pub mod WholeSource

@@ -1,9 +1,13 @@
 -- Translation in order: each piece has the outcome of its declaration.
-use Rattle.std.specs.Prelude.{ℕ, Some, Ok, Err}
-use Rattle.cxx_base.specs.declared.refusal.Code.TheVariants.{V1}
+use Rattle.std.specs.Prelude.{ℕ, [], Ok, Err}
+use Rattle.cxx_base.specs.Refusals.{met, notes_of}
+use Rattle.cxx_base.specs.declared.place.Place.{Place}
+use Rattle.cxx_base.specs.declared.refusal.Refusal.{Refusal}
+use Rattle.cxx_base.specs.declared.code.Code.TheVariants.{V1}
 use Rattle.int_kinds.specs.declared.fault.ArithFault.{ArithFault}
 use Rattle.int_kinds.specs.declared.fault.ArithFault.TheVariants.{Overflow, ZeroDivisor, LeastByMinusOne, ShiftCount}
 use Rattle.reflect_cli.specs.Values.{Evaluated, sum_value, sum_place}
+use Rattle.reflect_cli.specs.declared.const_eval.Refused.{Refused as Operation}
 use Rattle.reflect_cli.specs.declared.core_tree.Outcome.{Outcome}
 use Rattle.reflect_cli.specs.declared.core_tree.Outcome.TheVariants.{Constant, Refused}
 use Rattle.reflect_cli.specs.declared.form_tree.Declaration.{Declaration}
@@ -15,10 +19,14 @@ detail_of ZeroDivisor = 1
 detail_of LeastByMinusOne = 2
 detail_of ShiftCount = 3
 
+-- an operation that is refused, in an initializer that begins at the place
+abbrev pub refusal_of : Place → Operation → Refusal
+refusal_of place refused = met V1 (detail_of refused.fault) place refused.place (notes_of [])
+
 abbrev pub outcome_by : Declaration → Evaluated → Outcome
 outcome_by declaration (Ok value) = Constant declaration.name value
 outcome_by declaration (Err refused) =
-    Refused (record { code = V1; detail = detail_of refused.fault; place = sum_place declaration.initializer; inner = Some refused.place })
+    Refused (refusal_of (sum_place declaration.initializer) refused)
 
 abbrev pub outcome_of : Declaration → Outcome
 outcome_of declaration = outcome_by declaration (sum_value declaration.initializer)

@@ -1,15 +1,16 @@
 -- The program of a source text, or why it has none.
 use Rattle.std.specs.Prelude.{◌≡◌, refl, ℕ, ◌^◌, Bool, true, false, nat_lt, if◌then◌else◌, List, length, Option, None, Some, Result, Ok, Err, slice_get}
 use Rattle.std.proofs.lemmas.Bool.{ltb-true}
-use Rattle.cxx_base.specs.Texts.{Text, library_names}
+use Rattle.cxx_base.specs.Library.{library_names}
+use Rattle.cxx_base.specs.Refusals.{whole}
+use Rattle.cxx_base.specs.Texts.{Text}
 use Rattle.cxx_base.specs.declared.place.Place.{Place}
-use Rattle.cxx_base.specs.declared.refusal.Code.{Code}
-use Rattle.cxx_base.specs.declared.refusal.Code.TheVariants as code
+use Rattle.cxx_base.specs.declared.code.Code.{Code}
+use Rattle.cxx_base.specs.declared.code.Code.TheVariants as code
 use Rattle.cxx_base.specs.declared.refusal.Refusal.{Refusal}
 use Rattle.cxx_tokens.specs.Characters.{start}
+use Rattle.cxx_tokens.specs.Faults.{Fault}
 use Rattle.cxx_tokens.specs.Lex.{Lexed, lex}
-use Rattle.cxx_tokens.specs.declared.fault.LexFault.{LexFault}
-use Rattle.cxx_tokens.specs.declared.fault.LexFault.TheVariants.{L1, L2, L3, L4, L5, Memory}
 use Rattle.reflect_cli.specs.Form.{is_in_form}
 use Rattle.cxx_grammar.specs.Units.{Derived, Derives, Refused, unit}
 use Rattle.cxx_reading.specs.Reading.{Nothing, TooDeep, place_of}
@@ -19,23 +20,13 @@ use Rattle.reflect_cli.specs.Accepted.{declarations}
 use Rattle.reflect_cli.specs.declared.form_tree.Declaration.{Declaration}
 use Rattle.reflect_cli.specs.declared.program.Program.{Program}
 
--- a refusal of the source as a whole, at a place
-abbrev pub refusal_at : Code → Place → Refusal
-refusal_at code place = record { code = code; detail = 0; place = place; inner = None }
-
--- the same at its start
+-- a refusal of the source as a whole, at its start
 abbrev pub source_refusal : Code → Refusal
-source_refusal code = refusal_at code start
+source_refusal code = whole code start
 
--- Why a text has no tokens, and where. The definition of the tokens knows no want of memory, so the last line is for nothing
--- but completeness.
-abbrev pub text_refusal : LexFault → Refusal
-text_refusal (L1 place) = refusal_at code.L1 place
-text_refusal (L2 place) = refusal_at code.L2 place
-text_refusal (L3 place) = refusal_at code.L3 place
-text_refusal (L4 place) = refusal_at code.L4 place
-text_refusal (L5 place) = refusal_at code.L5 place
-text_refusal Memory = source_refusal code.S1
+-- why a text has no tokens, and where
+abbrev pub text_refusal : Fault → Refusal
+text_refusal fault = whole fault.code fault.place
 
 abbrev pub formed : List Text → List Declaration → Result Program Refusal
 formed names found =
@@ -51,8 +42,8 @@ place_at tokens i = place_of tokens.end (slice_get tokens.list i)
 
 abbrev pub parsed_by : List Text → Tokens → Derived → Result Program Refusal
 parsed_by names tokens (Derives items) = formed_by names (declarations items)
-parsed_by names tokens (Refused Nothing i) = Err (refusal_at code.S1 (place_at tokens i))
-parsed_by names tokens (Refused TooDeep i) = Err (refusal_at code.S2 (place_at tokens i))
+parsed_by names tokens (Refused Nothing i) = Err (whole code.S1 (place_at tokens i))
+parsed_by names tokens (Refused TooDeep i) = Err (whole code.S2 (place_at tokens i))
 
 abbrev pub parsed : List Text → Tokens → Result Program Refusal
 parsed names tokens = parsed_by names tokens (unit tokens)
@@ -67,7 +58,7 @@ abbrev pub parsed_if_any : List Text → Option Tokens → Result Program Refusa
 parsed_if_any names None = Err (source_refusal code.L6)
 parsed_if_any names (Some tokens) = parsed names tokens
 
-abbrev pub program_by : Result Lexed LexFault → Result Program Refusal
+abbrev pub program_by : Result Lexed Fault → Result Program Refusal
 program_by (Ok lexed) = parsed_if_any lexed.names (numbered lexed.tokens lexed.end (nat_lt (length lexed.tokens) (2 ^ 32)) refl)
 program_by (Err fault) = Err (text_refusal fault)
 

@@ -3,10 +3,10 @@ use Rattle.std.specs.Prelude.{ℕ, ℤ, Bool, true, false, List, [], ◌++◌, l
 use Rattle.std.specs.Fmt.{signed_decimal}
 use Rattle.std.specs.List.{flat_map, count_by}
 use Rattle.cxx_base.specs.Texts.{Text}
-use Rattle.cxx_base.specs.declared.names.Name.{Name}
+use Rattle.cxx_base.specs.declared.name.Name.{Name}
 use Rattle.cxx_base.specs.declared.place.Place.{Place}
-use Rattle.cxx_base.specs.declared.refusal.Code.{Code}
-use Rattle.cxx_base.specs.declared.refusal.Code.TheVariants.{R1}
+use Rattle.cxx_base.specs.declared.code.Code.{Code}
+use Rattle.cxx_base.specs.declared.code.Code.TheVariants.{R1}
 use Rattle.cxx_base.specs.declared.refusal.Refusal.{Refusal}
 use Rattle.diagnostics.specs.Texts.{code_name, text}
 use Rattle.reflect_cli.specs.declared.core_tree.Outcome.{Outcome}

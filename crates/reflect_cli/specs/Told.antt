@@ -3,7 +3,8 @@ use Rattle.std.specs.Prelude.{ℕ, Bool, false, ◌==◌, nat_lt, if◌then◌el
 use Rattle.std.specs.List.{count_by}
 use Rattle.std.specs.Str.{bytes_eq}
 use Rattle.cxx_base.specs.Texts.{Text}
-use Rattle.cxx_base.specs.declared.refusal.Code.TheVariants.{L6}
+use Rattle.cxx_base.specs.declared.code.Code.TheVariants.{L6}
+use Rattle.cxx_base.specs.declared.limits.TheConstants.{MAX_SOURCE}
 use Rattle.cxx_base.specs.declared.refusal.Refusal.{Refusal}
 use Rattle.reflect_cli.specs.Order.{outcome_of}
 use Rattle.reflect_cli.specs.Program.{program_of, source_refusal}
@@ -30,7 +31,7 @@ answer_by (Ok program) = translated program.names (map outcome_of program.declar
 
 -- the report of a source and its status
 unfoldable pub report_of : Text → Answer
-report_of bytes = if nat_lt 4194304 (length bytes) then refused (source_refusal L6) else answer_by (program_of bytes)
+report_of bytes = if nat_lt MAX_SOURCE (length bytes) then refused (source_refusal L6) else answer_by (program_of bytes)
 
 -- the one accepted list of words
 abbrev pub is_in_grammar : List Text → Bool

@@ -6,8 +6,8 @@ ghost use Rattle.reflect_cli.specs.Form as spec;
 ghost use Rattle.reflect_cli.specs.Search.{are_new};
 
 use crate::form_tree::{Declaration, Sum};
+use cxx_base::library::STD;
 use cxx_base::{MAX_PIECES, Memory};
-use cxx_grammar::STD;
 use indexmap::IndexSet;
 use std::alloc::Global;
 
@@ -25,11 +25,10 @@ fn is_short(sum: &Sum) -> bool
     size <= MAX_LITERALS
 }
 
-#[tactic(auto, using(crate::proofs::StdName::std_is_first))]
 fn fits(declaration: &Declaration) -> bool
     ensures { result ≡ spec.fits declaration.now }
 {
-    declaration.name.0 != STD && is_short(&declaration.initializer)
+    declaration.name.0 != STD.0 && is_short(&declaration.initializer)
 }
 
 fn are_new(alloc: Global, declarations: &[Declaration]) -> Result<bool, Memory>
@@ -54,7 +53,7 @@ fn all_fit(declarations: &[Declaration]) -> bool
 #[tactic(auto, using(crate::proofs::Distinct::new_are_distinct), unfolding(crate::specs::Form::is_in_form))]
 pub fn is_in_form(alloc: Global, declarations: &[Declaration]) -> Result<bool, Memory>
     ensures answer { IfOk result (λ answer. answer ≡ spec.is_in_form declarations.now) }
-    ensures few { IfOk result (λ answer. answer ≡ true → length declarations.now ≤ 65536) }
+    ensures few { IfOk result (λ answer. answer ≡ true → length declarations.now ≤ MAX_PIECES) }
 {
     if declarations.len() <= MAX_PIECES && all_fit(declarations) {
         are_new(alloc, declarations)

@@ -3,11 +3,11 @@
 ghost use Rattle.std.specs.Prelude.{◌≡◌, IfOk, map};
 ghost use Rattle.reflect_cli.specs.Order as spec;
 
-use crate::const_eval::{first_token, sum_value};
+use crate::const_eval::{Refused, first_token, sum_value};
 use crate::core_tree::Outcome;
 use crate::form_tree::Declaration;
-use containers::Items;
-use cxx_base::{Code, Memory, Refusal};
+use containers::{Boxed, Items};
+use cxx_base::{Code, Memory, Notes, Place, Refusal};
 use int_kinds::ArithFault;
 use std::alloc::Global;
 
@@ -22,20 +22,31 @@ fn detail_of(fault: ArithFault) -> u64
     }
 }
 
-fn outcome_of(declaration: &Declaration) -> Outcome
-    ensures { result ≡ spec.outcome_of declaration.now }
+// An operation that is refused, in an initializer that begins at the place. There are no calls.
+fn refusal_of(place: Place, refused: Refused) -> Refusal
+    ensures { result ≡ spec.refusal_of place refused }
+{
+    Refusal::met(
+        Code::V1,
+        detail_of(refused.fault),
+        place,
+        refused.place,
+        Notes::NONE,
+    )
+}
+
+fn outcome_of(alloc: Global, declaration: &Declaration) -> Result<Outcome, Memory>
+    ensures { IfOk result (λ outcome. outcome ≡ spec.outcome_of declaration.now) }
 {
     match sum_value(&declaration.initializer) {
-        Ok(value) => Outcome::Constant {
+        Ok(value) => Ok(Outcome::Constant {
             name: declaration.name,
             value,
-        },
-        Err(refused) => Outcome::Refused(Refusal {
-            code: Code::V1,
-            detail: detail_of(refused.fault),
-            place: first_token(&declaration.initializer),
-            inner: Some(refused.place),
         }),
+        Err(refused) => {
+            let refusal = refusal_of(first_token(&declaration.initializer), refused);
+            Ok(Outcome::Refused(Boxed::new(alloc, refusal)?))
+        }
     }
 }
 
@@ -48,7 +59,7 @@ pub fn translate_in_order(
 {
     let mut outcomes = Items::new(alloc);
     for declaration in declarations {
-        outcomes.push(outcome_of(declaration))?;
+        outcomes.push(outcome_of(alloc, declaration)?)?;
     }
     Ok(outcomes)
 }

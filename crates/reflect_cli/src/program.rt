@@ -1,6 +1,7 @@
 //! From bytes to a program.
 
 ghost use Rattle.std.specs.Prelude.{◌≡◌, ◌≤◌, IfOk, length};
+ghost use Rattle.cxx_base.specs.declared.limits.TheConstants.{MAX_PIECES, MAX_SOURCE};
 ghost use Rattle.reflect_cli.specs.Accepted as accepted;
 ghost use Rattle.reflect_cli.specs.Answers.{GivesProgram, fault_of, syntax_fault_of};
 ghost use Rattle.reflect_cli.specs.Program as spec;
@@ -47,23 +48,11 @@ impl From<Memory> for ProgramFault {
     }
 }
 
-// A refusal of the source as a whole, at a place.
-fn refusal_at(code: Code, place: Place) -> Refusal
-    ensures { result ≡ spec.refusal_at code place }
-{
-    Refusal {
-        code,
-        detail: 0,
-        place,
-        inner: None,
-    }
-}
-
 /// A refusal of the source as a whole, at its start.
 pub fn source_refusal(code: Code) -> Refusal
     ensures { result ≡ spec.source_refusal code }
 {
-    refusal_at(code, Place::START)
+    Refusal::whole(code, Place::START)
 }
 
 // Why there is no program of a text that has no tokens: the code of the fault, at its place.
@@ -71,11 +60,11 @@ fn fault_of(fault: LexFault) -> ProgramFault
     ensures { result ≡ fault_of fault }
 {
     match fault {
-        LexFault::L1(place) => ProgramFault::Refused(refusal_at(Code::L1, place)),
-        LexFault::L2(place) => ProgramFault::Refused(refusal_at(Code::L2, place)),
-        LexFault::L3(place) => ProgramFault::Refused(refusal_at(Code::L3, place)),
-        LexFault::L4(place) => ProgramFault::Refused(refusal_at(Code::L4, place)),
-        LexFault::L5(place) => ProgramFault::Refused(refusal_at(Code::L5, place)),
+        LexFault::L1(place) => ProgramFault::Refused(Refusal::whole(Code::L1, place)),
+        LexFault::L2(place) => ProgramFault::Refused(Refusal::whole(Code::L2, place)),
+        LexFault::L3(place) => ProgramFault::Refused(Refusal::whole(Code::L3, place)),
+        LexFault::L4(place) => ProgramFault::Refused(Refusal::whole(Code::L4, place)),
+        LexFault::L5(place) => ProgramFault::Refused(Refusal::whole(Code::L5, place)),
         LexFault::Memory => ProgramFault::Memory,
     }
 }
@@ -85,8 +74,8 @@ fn syntax_fault_of(fault: SyntaxFault) -> ProgramFault
     ensures { result ≡ syntax_fault_of fault }
 {
     match fault {
-        SyntaxFault::S1(place) => ProgramFault::Refused(refusal_at(Code::S1, place)),
-        SyntaxFault::S2(place) => ProgramFault::Refused(refusal_at(Code::S2, place)),
+        SyntaxFault::S1(place) => ProgramFault::Refused(Refusal::whole(Code::S1, place)),
+        SyntaxFault::S2(place) => ProgramFault::Refused(Refusal::whole(Code::S2, place)),
         SyntaxFault::Memory => ProgramFault::Memory,
     }
 }
@@ -97,7 +86,7 @@ fn formed(
     declarations: Items<Declaration>,
 ) -> Result<Program, ProgramFault>
     ensures program { GivesProgram (spec.formed names declarations) result }
-    ensures few { IfOk result (λ program. length program.declarations ≤ 65536) }
+    ensures few { IfOk result (λ program. length program.declarations ≤ MAX_PIECES) }
 {
     if is_in_form(alloc, declarations.as_slice())? {
         Ok(Program {
@@ -111,7 +100,7 @@ fn formed(
 
 fn accepted(alloc: Global, names: Names, items: &[Item]) -> Result<Program, ProgramFault>
     ensures program { GivesProgram (spec.formed_by names (accepted.declarations items.now)) result }
-    ensures few { IfOk result (λ program. length program.declarations ≤ 65536) }
+    ensures few { IfOk result (λ program. length program.declarations ≤ MAX_PIECES) }
 {
     match declarations(alloc, items)? {
         Some(declarations) => formed(alloc, names, declarations),
@@ -122,7 +111,7 @@ fn accepted(alloc: Global, names: Names, items: &[Item]) -> Result<Program, Prog
 #[tactic(auto, using(crate::proofs::Refusals::with_unit, crate::proofs::Refusals::without_unit))]
 fn parsed(alloc: Global, names: Names, tokens: &Tokens) -> Result<Program, ProgramFault>
     ensures program { GivesProgram (spec.parsed names tokens.now) result }
-    ensures few { IfOk result (λ program. length program.declarations ≤ 65536) }
+    ensures few { IfOk result (λ program. length program.declarations ≤ MAX_PIECES) }
 {
     match unit(alloc, tokens) {
         Ok(unit) => accepted(alloc, names, unit.items.as_slice()),
@@ -135,11 +124,11 @@ fn parsed(alloc: Global, names: Names, tokens: &Tokens) -> Result<Program, Progr
 /// refused `T8` at the start of the text.
 #[tactic(auto, using(crate::proofs::Refusals::with_tokens, crate::proofs::Refusals::without_tokens), unfolding(crate::specs::Program::program_of))]
 pub fn program_of(alloc: Global, bytes: &[u8]) -> Result<Program, ProgramFault>
-    requires { length bytes.now ≤ 4194304 }
+    requires { length bytes.now ≤ MAX_SOURCE }
     ensures program { GivesProgram (spec.program_of bytes.now) result }
-    ensures few { IfOk result (λ program. length program.declarations ≤ 65536) }
+    ensures few { IfOk result (λ program. length program.declarations ≤ MAX_PIECES) }
 {
-    let mut names = Names::new(alloc)?;
+    let mut names = Names::of_source(alloc, bytes)?;
     match tokens(alloc, &mut names, bytes) {
         Ok(tokens) => parsed(alloc, names, &tokens),
         Err(fault) => Err(fault_of(fault)),

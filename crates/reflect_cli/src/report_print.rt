@@ -112,7 +112,7 @@ pub fn append_outcome(out: &mut Bytes, names: &Names, outcome: &Outcome) -> Resu
 {
     match outcome {
         Outcome::Constant { name, value } => append_constant(out, names, *name, *value),
-        Outcome::Refused(refusal) => append_refusal(out, refusal),
+        Outcome::Refused(refusal) => append_refusal(out, refusal.get()),
     }
 }
 

@@ -3,7 +3,10 @@
 use crate::shown::{append_fault, append_kinds, append_places};
 use crate::source_text::source_bytes;
 use cxx_base::{MAX_SOURCE, Names};
-use cxx_tokens::{numbers_are_places, tokens, tokens_are_longest};
+use cxx_tokens::{
+    cuts_are_one, numbers_are_places, scan_is_the_cut, tokens, tokens_are_longest,
+    tokens_are_usable,
+};
 use row_edge::RowFault;
 use std::alloc::Global;
 
@@ -30,6 +33,9 @@ pub fn append_answer(alloc: Global, out: &mut String, line: &str) -> Result<(), 
 fn append_laws(out: &mut String) -> Result<(), RowFault> {
     numbers_are_places();
     tokens_are_longest();
+    cuts_are_one();
+    scan_is_the_cut();
+    tokens_are_usable();
     out.push_str("hold")?;
     Ok(())
 }

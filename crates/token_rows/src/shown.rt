@@ -19,7 +19,7 @@ fn append_kind(out: &mut String, names: &Names, kind: &TokenKind) -> Result<(), 
             n,
         } => write!(out, "{decimal} {unsigned} {longs} {n}"),
         TokenKind::Character(byte) => write!(out, "'{byte}"),
-        TokenKind::Text(bytes) => write!(out, "{:?}", bytes.as_slice()),
+        TokenKind::Text(bytes) => write!(out, "{:?}", bytes.get().as_slice()),
     }
 }
 

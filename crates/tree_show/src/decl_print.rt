@@ -74,7 +74,7 @@ impl Printer<'_> {
     }
 
     fn put_parameter(&mut self, x: &ParameterTree) -> Result<(), AllocError> {
-        self.put_with(" (", x.of_type.span())?;
+        self.put_with(" (", x.of_type.get().span())?;
         if let Some(name) = x.name {
             self.put_with(",", name.span)?;
         }

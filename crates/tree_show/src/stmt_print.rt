@@ -2,10 +2,10 @@
 //! their spans tell.
 
 use crate::printer::Printer;
-use cxx_base::IntOp;
+use cxx_base::{IntOp, Span};
 use cxx_tree::{
-    ArgTree, AssignTree, BodyTree, Expr, ForHead, ForInit, ForRange, ForStep, InitTree, LocalTree,
-    Returned, StepOp, Stmt,
+    ArgTree, AssignTree, BodyTree, ClassTree, Expr, ForHead, ForInit, ForRange, ForStep, InitTree,
+    LocalTree, Returned, StepOp, Stmt,
 };
 use std::alloc::{AllocError, Global};
 
@@ -37,6 +37,13 @@ fn before_value(value: &ArgTree) -> &'static str {
     match value {
         ArgTree::Expr(_) => ",",
         ArgTree::Braced(_) => ", braced",
+    }
+}
+
+fn class_span(x: &ClassTree) -> Span {
+    match x {
+        ClassTree::Declared(span, _, _) => *span,
+        ClassTree::Defined(span, _, _, _, _) => *span,
     }
 }
 
@@ -162,6 +169,8 @@ impl Printer<'_> {
             Stmt::Empty(span) => self.put_words(*span),
             Stmt::Assert(x) => self.put_assert(x),
             Stmt::Alias(x) => self.put_alias(x),
+            Stmt::Class(x) => self.put_last("(class", class_span(x.get())),
+            Stmt::Block(x) => self.put_last("(block", x.span),
             Stmt::Local(x) => self.put_local(x),
             Stmt::Assign(x) => self.put_assign(x),
             Stmt::Expr(_, x) => self.put_last("(expr", x.span()),

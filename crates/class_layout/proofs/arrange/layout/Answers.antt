@@ -35,11 +35,11 @@ loop-part-preserved c =
       parts = parts_step l.parts l.part-index l.end d c.place-end.new.part c.place-end.result within e f l.invariant.parts;
       align = subst IsAlign (sym greater)
           (max_is_align l.align c.place-end.new.part.align l.invariant.align (subst IsAlign same (record { power = this.power; few = this.few })));
-      few = c.if-end-gt-MAX_CLASS.false;
+      few = c.if-end-gt-MAX_OBJECT.false;
     }
 
-pub returns-then-end-gt-MAX_CLASS-clause-layout : goal.returns-then-end-gt-MAX_CLASS-clause-layout
-returns-then-end-gt-MAX_CLASS-clause-layout c =
+pub returns-then-end-gt-MAX_OBJECT-clause-layout : goal.returns-then-end-gt-MAX_OBJECT-clause-layout
+returns-then-end-gt-MAX_OBJECT-clause-layout c =
     let l = c.loop-part in
     let d : Part = record { size = 0; align = 0; offset = 0 } in
     let n = c.loop-part.auto.parts in
@@ -47,7 +47,7 @@ returns-then-end-gt-MAX_CLASS-clause-layout c =
     let ends = ends_step l.parts l.part-index l.end d c.place-end.new.part c.place-end.result within c.place-end.ensures.part c.place-end.ensures.end
     (last_end 0 c.args.parts.now) l.invariant.ends in
     let below = end_below_last c.place-end.result (drop (l.part-index + 1) (set l.parts l.part-index c.place-end.new.part)) in
-    let large : 2 ^ 31 < last_end 0 c.args.parts.now = omega (arith, ends, below, c.if-end-gt-MAX_CLASS.true) in
+    let large : 2 ^ 31 < last_end 0 c.args.parts.now = omega (arith, ends, below, c.if-end-gt-MAX_OBJECT.true) in
     sym (too_large_by c.args.parts.now large)
 
 pub returns-clause-layout : goal.returns-clause-layout

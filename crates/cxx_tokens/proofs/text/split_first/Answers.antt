@@ -1,12 +1,9 @@
-use Rattle.std.proofs.Common.{◌∷◌, ◌∙◌, ap, sym, chars, length}
-use Rattle.std.proofs.lemmas.Str.{chars_past_char}
+use Rattle.std.proofs.Common.{◌≡◌, ◌∙◌, length, sym, ap}
+use Rattle.std.proofs.lemmas.Bool.{eqb-true}
 use Rattle.cxx_tokens.proofs.Cut.{no_characters}
 use Rattle.cxx_tokens.proofs.text.split_first.Goals as goal
 
-pub returns-in-Some : goal.returns-in-Some
-returns-in-Some c =
-    chars_past_char c.args.text.now c.next.new.self.rest.now c.in-Some.first c.utf8.text (sym c.chars-characters.ensures.rest ∙ c.in-Some.ensures.steps.0)
-    ∙ ap (λ rest. c.in-Some.first ∷ chars rest) (sym c.as_str.ensures)
-
-pub returns-in-None : goal.returns-in-None
-returns-in-None c = no_characters c.args.text.now (ap length (sym c.chars-characters.ensures.rest) ∙ c.in-None.ensures.steps.0.0)
+pub returns-then-is_empty : goal.returns-then-is_empty
+returns-then-is_empty c =
+    let none : length c.as_bytes-bytes.result.now ≡ 0 = eqb-true _ _ (sym c.is_empty.ensures ∙ c.if-is_empty.true) in
+    no_characters c.args.text.now (ap length (sym c.as_bytes-bytes.ensures.value) ∙ none)

@@ -1,0 +1,5 @@
+use Rattle.cxx_tokens.proofs.UsableLaws.{usable}
+use Rattle.cxx_tokens.proofs.laws.tokens_are_usable.Goals as goal
+
+pub returns : goal.returns
+returns c = usable

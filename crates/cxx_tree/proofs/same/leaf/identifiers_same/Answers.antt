@@ -1,7 +1,0 @@
-use Rattle.cxx_tree.proofs.Walks.{runs_out}
-use Rattle.cxx_tree.specs.Names.{SameIdentifier}
-use Rattle.cxx_tree.proofs.same.leaf.identifiers_same.Goals as goal
-
-pub returns-in-None : goal.returns-in-None
-returns-in-None c =
-    (λ no. cc, λ same. absurd (runs_out SameIdentifier _ _ _ c.loop-x-test.true c.in-None.ensures.cases (c.loop-x.invariant.0 same)))

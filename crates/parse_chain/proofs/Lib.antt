@@ -1,0 +1,4 @@
+pub mod Lines
+pub mod Turning
+pub mod Steps
+pub mod Placing

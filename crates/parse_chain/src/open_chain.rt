@@ -1,0 +1,117 @@
+//! Chains that are open.
+
+ghost use Rattle.std.specs.Prelude.{◌≡◌, IfOk};
+
+use containers::{Boxed, Items};
+use cxx_grammar::Operator;
+use cxx_reading::{push, span};
+use cxx_tokens::Tokens;
+use cxx_tree::{BinaryOp, Expr, Operation};
+use std::alloc::{AllocError, Global};
+
+/// A chain of operators of one line whose last operator stands, while the operand behind it is read.
+pub struct OpenChain {
+    /// The line of precedence of its operators.
+    pub line: u32,
+    /// The number of its first token.
+    pub start: u32,
+    pub first: Boxed<Expr>,
+    /// The operations before the last operator.
+    pub done: Items<Operation>,
+    /// The last operator.
+    pub op: BinaryOp,
+    /// The number of its token.
+    pub begin: u32,
+}
+
+impl Drop for OpenChain {
+    fn drop(self) {
+        let OpenChain {
+            line: _,
+            start: _,
+            first: _,
+            done: _,
+            op: _,
+            begin: _,
+        } = self;
+    }
+}
+
+impl OpenChain {
+    ghost use Rattle.parse_chain.specs.Chains as spec;
+
+    /// A chain that begins with an operand, which began at `start`, and the operator at token number `begin`.
+    pub fn new(
+        alloc: Global,
+        operator: Operator,
+        start: u32,
+        x: Expr,
+        begin: u32,
+    ) -> Result<OpenChain, AllocError>
+        ensures { IfOk result (λ chain. chain ≡ spec.opened operator start x begin) }
+    {
+        let first = Boxed::new(alloc, x)?;
+        Ok(OpenChain {
+            line: operator.line,
+            start,
+            first,
+            done: Items::new(alloc),
+            op: operator.op,
+            begin,
+        })
+    }
+
+    /// The chain with its operand, which ends before token number `end`, and a further operator of its line, which stands there.
+    pub fn extended(
+        self,
+        alloc: Global,
+        tokens: &Tokens,
+        x: Expr,
+        op: BinaryOp,
+        end: u32,
+    ) -> Result<OpenChain, AllocError>
+        ensures { IfOk result (λ chain. chain ≡ spec.extended tokens.now self x op end) }
+    {
+        let OpenChain {
+            line,
+            start,
+            first,
+            mut done,
+            op: last,
+            begin,
+        } = self;
+        let operation = Operation::Operation(span(tokens, begin, end), last, x);
+        push(alloc, &mut done, operation)?;
+        Ok(OpenChain {
+            line,
+            start,
+            first,
+            done,
+            op,
+            begin: end,
+        })
+    }
+
+    /// The whole chain with its last operand, which ends before token number `end`.
+    pub fn closed(
+        self,
+        alloc: Global,
+        tokens: &Tokens,
+        x: Expr,
+        end: u32,
+    ) -> Result<Expr, AllocError>
+        ensures { IfOk result (λ made. made ≡ spec.closed tokens.now self x end) }
+    {
+        let OpenChain {
+            line: _,
+            start,
+            first,
+            mut done,
+            op,
+            begin,
+        } = self;
+        let operation = Operation::Operation(span(tokens, begin, end), op, x);
+        push(alloc, &mut done, operation)?;
+        Ok(Expr::Chain(span(tokens, start, end), first, done))
+    }
+}

@@ -1,9 +1,0 @@
-use Rattle.std.proofs.Common.{◌≡◌, length}
-use Rattle.cxx_grammar.specs.Statements as spec
-use Rattle.parse_stmt.proofs.fit.have_lengths.Given as goal
-
-abbrev pub invariant-loop-first : goal.invariant-loop-first
-invariant-loop-first l = spec.have_lengths l.fn.bounds ≡ spec.have_lengths l.rest
-
-abbrev pub decreases-loop-first : goal.decreases-loop-first
-decreases-loop-first l = length l.rest

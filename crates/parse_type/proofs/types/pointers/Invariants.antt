@@ -1,7 +1,0 @@
-use Rattle.std.proofs.Common.{◌≡◌, ◌-◌}
-use Rattle.cxx_reading.specs.Reading.{turns}
-use Rattle.cxx_grammar.specs.Types as spec
-use Rattle.parse_type.proofs.types.pointers.Given as goal
-
-abbrev pub invariant-loop-turn : goal.invariant-loop-turn
-invariant-loop-turn l = spec.pointers l.tokens l.fn.found l.fn.at ≡ turns (l._turn-end - l._turn) (spec.pointers_on l.tokens) l.found l.at

@@ -1,0 +1,15 @@
+-- A walk along two lists whose rest of the second has run out.
+use Rattle.std.proofs.Common.{◌≡◌, ℕ, ◌<◌, List, [], ◌∷◌, length, drop, arith}
+use Rattle.std.proofs.lemmas.List.{length-drop}
+use Rattle.tree_same.specs.Lists.{AreSame}
+
+longer : {A : Type 0} (IsSame : A → A → Type 0) (xs ys : List A) → 0 < length xs → length ys ≡ 0 → AreSame IsSame xs ys → ⊥
+longer IsSame [] ys some none same = omega arith
+longer IsSame (x ∷ xs) [] some none same = same
+longer IsSame (x ∷ xs) (y ∷ ys) some none same = omega arith
+
+pub runs_out : {A : Type 0} (IsSame : A → A → Type 0) (xs rest : List A) (i : ℕ) → i < length xs → length rest ≡ 0 →
+    AreSame IsSame (drop i xs) rest → ⊥
+runs_out IsSame xs rest i more none same =
+    let some : 0 < length (drop i xs) = simp length-drop (omega arith) in
+    longer IsSame (drop i xs) rest some none same

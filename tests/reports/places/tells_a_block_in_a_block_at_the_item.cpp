@@ -1,0 +1,5 @@
+int a; namespace n {
+	consteval {
+		consteval { }
+	}
+}

@@ -1,0 +1,5 @@
+/* é */ struct S {
+  struct T {
+    void f() { consteval { struct U; } }
+  };
+};

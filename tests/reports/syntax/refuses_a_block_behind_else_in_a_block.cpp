@@ -1,0 +1,1 @@
+consteval { if (1) ; else { consteval { } } }

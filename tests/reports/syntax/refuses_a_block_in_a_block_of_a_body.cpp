@@ -1,0 +1,2 @@
+int z;
+  int f() { consteval { consteval { } } return 0; }

@@ -1,0 +1,1 @@
+consteval { struct S { int a; }; }

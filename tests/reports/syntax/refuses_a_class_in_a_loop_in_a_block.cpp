@@ -1,0 +1,1 @@
+consteval { while (1) struct S; }

@@ -1,0 +1,1 @@
+int f() { if (struct S { }; 1) return 1; return 0; }

@@ -1,0 +1,1 @@
+int f() { struct S { T() { } }; return 0; }

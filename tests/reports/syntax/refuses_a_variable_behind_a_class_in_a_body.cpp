@@ -1,0 +1,1 @@
+int f() { struct S { int a; } s; return 0; }

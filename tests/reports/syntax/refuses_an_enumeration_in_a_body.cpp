@@ -1,0 +1,1 @@
+int f() { enum E { a }; return 0; }

@@ -1,0 +1,1 @@
+void f() { while (1) struct S { void g() { break; } }; }

@@ -1,0 +1,1 @@
+int f() { if (1) consteval { }; else ; return 0; }
