@@ -1,6 +1,6 @@
 //! The answer to a row.
 
-use crate::{base, devices, layouts, lists, reading, refusals};
+use crate::{base, devices, layouts, lists, refusals};
 use row_edge::RowFault;
 use std::alloc::Global;
 
@@ -15,7 +15,6 @@ pub fn append_answer(alloc: Global, out: &mut String, line: &str) -> Result<(), 
         "cxx_base" => base::append_answer(alloc, out, rest),
         "diagnostics" => refusals::append_answer(out, rest),
         "io_edge" => devices::append_answer(alloc, out, rest),
-        "cxx_reading" => reading::append_answer(alloc, out, rest),
         _ => Err(RowFault::Unread),
     }
 }

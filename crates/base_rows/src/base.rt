@@ -1,8 +1,8 @@
 //! Rows of the base: names, bytes, outcomes, steps, limits, and what refusals are made of.
 
 use crate::bytes::{append_bytes, append_outcome};
-use crate::limits::append_limits;
-use crate::names::{append_found, append_numbers};
+use crate::limits::{append_limits, append_range};
+use crate::names::{append_found, append_numbers, append_scopes};
 use crate::notes::{append_laws, append_made, append_notes};
 use cxx_base::{Bytes, Memory, Names, Ticks};
 use row_edge::{RowFault, all_parsed, next_word, parsed, show, text_of};
@@ -18,6 +18,7 @@ pub fn append_answer(alloc: Global, out: &mut String, row: &str) -> Result<(), R
             let source = text_of(next_word(&mut words)?)?;
             append_numbers(out, Names::of_source(alloc, source.as_bytes())?, words)
         }
+        "scopes" => append_scopes(out, all_parsed::<u32>(alloc, words)?.as_slice()),
         "bytes" => append_bytes(alloc, out, words),
         "bytes_of" => {
             let bytes = Bytes::from_vec(all_parsed::<u8>(alloc, words)?);
@@ -29,6 +30,10 @@ pub fn append_answer(alloc: Global, out: &mut String, row: &str) -> Result<(), R
         }
         "ticks" => append_ticks(out, all_parsed::<u32>(alloc, words)?.as_slice()),
         "limits" => append_limits(out),
+        "range" => {
+            let steps = parsed::<u64>(next_word(&mut words)?)?;
+            append_range(out, steps, parsed::<u32>(next_word(&mut words)?)?)
+        }
         "notes" => append_notes(out, all_parsed::<u32>(alloc, words)?.as_slice()),
         "made" => append_made(out),
         "laws" => append_laws(alloc, out),

@@ -29,3 +29,8 @@ pub fn append_limits(out: &mut String) -> Result<(), RowFault> {
         ],
     )
 }
+
+/// Whether an evaluation may be given so many steps and so many active calls.
+pub fn append_range(out: &mut String, steps: u64, depth: u32) -> Result<(), RowFault> {
+    show(out, &Limits { steps, depth }.are_in_range())
+}

@@ -1,5 +1,5 @@
-//! Answers rows of calls of `containers`, `class_layout`, `cxx_base`, `diagnostics`, `io_edge` and `cxx_reading`: each line of the
-//! input with what its call gives.
+//! Answers rows of calls of `containers`, `class_layout`, `cxx_base`, `diagnostics` and `io_edge`: each line of the input with what its
+//! call gives.
 //!
 //! A line is a library, a call of it and the arguments, as `cxx_base find "std"`. A line that begins with `#` is a remark and is
 //! repeated, and so is an empty one.
@@ -14,9 +14,7 @@ mod limits;
 mod lists;
 mod names;
 mod notes;
-mod reading;
 mod refusals;
-mod steps;
 mod streams;
 
 use answer::append_answer;

@@ -1,7 +1,7 @@
 //! Rows of names.
 
-use cxx_base::Names;
-use cxx_base::library::EXTRACT;
+use cxx_base::library::{EXTRACT, scope_of};
+use cxx_base::{Name, Names};
 use row_edge::{RowFault, show, text_of};
 use std::alloc::Global;
 use std::str::SplitWhitespace;
@@ -39,6 +39,15 @@ pub fn append_numbers(
     let count = names.len();
     if count > EXTRACT.0 {
         show(out, &(count, names.text(EXTRACT)))?;
+    }
+    Ok(())
+}
+
+/// Where the names of these numbers are declared, if they are names of the library.
+pub fn append_scopes(out: &mut String, numbers: &[u32]) -> Result<(), RowFault> {
+    for number in numbers {
+        show(out, &scope_of(Name(*number)))?;
+        out.push(' ')?;
     }
     Ok(())
 }

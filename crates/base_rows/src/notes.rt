@@ -1,8 +1,9 @@
 //! Rows of refusals and of their notes.
 
 use cxx_base::{
-    Code, EntityNo, Names, Note, Notes, PieceNo, Place, Refusal, names_are_in_place,
-    no_call_is_noted,
+    Code, EntityNo, Names, Note, Notes, PieceNo, Place, Refusal, cause, defaults_are_in_range,
+    library, names_are_in_place, names_are_sent_and_shared, no_call_is_noted,
+    outcomes_are_sent_and_shared,
 };
 use row_edge::{RowFault, show};
 use std::alloc::Global;
@@ -67,13 +68,26 @@ pub fn append_made(out: &mut String) -> Result<(), RowFault> {
     append_refusal(out, Refusal::of_read(PieceNo(7), place))?;
     out.push_str(", ")?;
     let notes = Notes::NONE.called_from(call_of(5));
-    append_refusal(out, Refusal::met(Code::V14, 2, Place::START, place, notes))
+    append_refusal(
+        out,
+        Refusal::met(
+            Code::V14,
+            cause::ENDED_WITHOUT_VALUE,
+            Place::START,
+            place,
+            notes,
+        ),
+    )
 }
 
 /// The laws, each of which is called once.
 pub fn append_laws(alloc: Global, out: &mut String) -> Result<(), RowFault> {
     no_call_is_noted();
     names_are_in_place(&Names::new(alloc)?);
+    library::names_have_their_scopes();
+    defaults_are_in_range();
+    names_are_sent_and_shared();
+    outcomes_are_sent_and_shared::<u64>();
     out.push_str("hold")?;
     Ok(())
 }

@@ -94,11 +94,15 @@ impl<T: Copy> Items<T> {
 }
 
 impl<T: Drop> Items<T> {
-    /// Puts an item behind the last. Without memory nothing changes, and the item is dropped.
+    /// Puts an item behind the last. Without memory nothing changes, and the item is dropped. Up to four items take the room of as
+    /// many, since most lists of a tree are short and stay as they are; after that the room doubles.
     pub fn push(&mut self, item: T) -> Result<(), AllocError>
         ensures ok { OnOk result (self.new ≡ self.old ++ item ∷ []) }
         ensures err { OnErr result (self.new ≡ self.old) }
     {
+        if self.items.len() < 4 {
+            self.items.reserve_exact(1)?;
+        }
         self.items.push(item)?;
         Ok(())
     }

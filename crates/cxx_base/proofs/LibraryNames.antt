@@ -6,6 +6,7 @@ use Rattle.std.specs.List.{list_all, AllByRecursion}
 use Rattle.std.specs.Str.{bytes_eq}
 use Rattle.std.specs.Cmp.Lexicographic.{bytes_decides}
 use Rattle.cxx_base.specs.Library.{library, library_names, BeginsWithLibrary, AreInPlace}
+use Rattle.cxx_base.specs.LibraryScopes.{AreDeclared}
 use Rattle.cxx_base.specs.Texts.{Text, has_text, number_of, with_text, with_texts}
 use Rattle.cxx_base.specs.declared.library.TheConstants.{LIBRARY}
 use Rattle.cxx_base.specs.declared.name.Name.{Name}
@@ -25,6 +26,10 @@ number_of-std = refl
 pub begins-library : BeginsWithLibrary library_names
 unfolding library library_names
 begins-library = refl
+
+pub are_declared : AreDeclared
+unfolding library library_names
+are_declared = refl
 
 -- a list that begins with those of the library is no shorter
 long : (texts : List Text) → BeginsWithLibrary texts → length library_names ≤ length texts

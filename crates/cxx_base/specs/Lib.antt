@@ -1,4 +1,8 @@
 pub mod Texts
 pub mod Library
+pub mod LibraryScopes
 pub mod KeyedHash
+pub mod TextTable
+pub mod NameTable
+pub mod LimitRanges
 pub mod Refusals

@@ -1,5 +1,6 @@
 -- What refusals are made of.
 use Rattle.std.specs.Prelude.{ℕ, List, [], ◌++◌, length, take, replicate, None, Some}
+use Rattle.cxx_base.specs.declared.cause.TheConstants.{ONE}
 use Rattle.cxx_base.specs.declared.code.Code.{Code}
 use Rattle.cxx_base.specs.declared.code.Code.TheVariants.{R1}
 use Rattle.cxx_base.specs.declared.note.TheConstants.{SHOWN_CALLS}
@@ -19,7 +20,7 @@ notes_of calls = record { count = length calls; shown = take SHOWN_CALLS (calls 
 
 -- met in no evaluation
 abbrev pub whole : Code → Place → Refusal
-whole code place = record { code = code; detail = 0; place = place; inner = None; notes = notes_of [] }
+whole code place = record { code = code; detail = ONE; place = place; inner = None; notes = notes_of [] }
 
 -- the same, of what reads a refused piece
 abbrev pub of_read : PieceNo → Place → Refusal

@@ -6,7 +6,8 @@ ghost use Rattle.cxx_base.specs.KeyedHash.{IsKeyedBy, initial_hasher};
 use std::hash::{BuildHasher, DefaultHasher, Hasher};
 
 /// Makes hashers that have read a source before they read a text. So which texts fall together depends on all of the
-/// source that they stand in, and no source can be written whose names do: it would have to be known before it is written.
+/// source that they stand in: names that do under one key do not under that of another source. Nothing is proved of how hard
+/// it is to find a source whose own names fall together under its key.
 #[derive(Clone, Copy)]
 pub struct KeyedHash {
     initial: DefaultHasher,

@@ -3,8 +3,10 @@
 #![tactic(auto)]
 
 mod bytes;
+pub mod cause;
 mod code;
 mod keyed_hash;
+mod laws;
 pub mod library;
 mod limits;
 mod memory;
@@ -22,10 +24,11 @@ mod ticks;
 pub use bytes::Bytes;
 pub use code::Code;
 pub use keyed_hash::KeyedHash;
+pub use laws::{is_sent_and_shared, names_are_sent_and_shared, outcomes_are_sent_and_shared};
 pub use limits::{
     DEFAULT_DEPTH, DEFAULT_STEPS, DEFAULT_WORKERS, Limits, MAX_BOUND, MAX_DEPTH, MAX_EDITS,
     MAX_GENERATED, MAX_IDENTIFIER, MAX_IMAGE, MAX_NESTING, MAX_OBJECT, MAX_PIECES, MAX_SOURCE,
-    MAX_STEPS, MAX_UNITS, MAX_WORKERS, TOO_DEEP,
+    MAX_STEPS, MAX_UNITS, MAX_WORKERS, TOO_DEEP, defaults_are_in_range,
 };
 pub use memory::Memory;
 pub use name::Name;

@@ -3,7 +3,24 @@
 //! `std`, `meta`, `vector` and `extract`, which the grammar knows, and then the other names that are declared in `std` or in
 //! `std::meta` before the first piece. Their order is fixed, so each has one number in all [`Names`](crate::Names).
 
+ghost use Rattle.std.specs.Prelude.{◌≡◌};
+ghost use Rattle.cxx_base.specs.LibraryScopes as spec;
+
 use crate::name::Name;
+
+/// Where a name of the library is declared.
+#[derive(Clone, Copy, Debug, PartialEq, Eq, Hash)]
+pub enum LibraryScope {
+    /// The global namespace.
+    Global,
+    /// `std`
+    Std,
+    /// `std::meta`
+    Meta,
+}
+
+/// How many there are.
+pub const COUNT: u32 = 69;
 
 /// Their texts, in order.
 pub const LIBRARY: [&str; 69] = [
@@ -284,3 +301,35 @@ pub const REMOVE_EXTENT: Name = Name(67);
 
 /// `underlying_type`
 pub const UNDERLYING_TYPE: Name = Name(68);
+
+/// Where a name is declared before the first piece: `std` in the global namespace, some names in `std`, and all others of the
+/// library in `std::meta`. None, where it is no name of the library.
+pub fn scope_of(name: Name) -> Option<LibraryScope>
+    ensures { result ≡ spec.scope_of name }
+{
+    if name.0 == STD.0 {
+        Some(LibraryScope::Global)
+    } else if is_in_std(name) {
+        Some(LibraryScope::Std)
+    } else if name.0 < COUNT {
+        Some(LibraryScope::Meta)
+    } else {
+        None
+    }
+}
+
+// Whether it is declared in `std`.
+fn is_in_std(name: Name) -> bool
+    ensures { result ≡ spec.is_in_std name }
+{
+    name.0 == META.0
+        || name.0 == VECTOR.0
+        || name.0 == STRING_VIEW.0
+        || name.0 == SIZE_T.0
+        || name.0 == PTRDIFF_T.0
+}
+
+/// Each name of the library is declared in one place, that which stands beside its text.
+pub fn names_have_their_scopes()
+    ensures { spec.AreDeclared }
+{}

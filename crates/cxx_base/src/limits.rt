@@ -1,6 +1,8 @@
 //! The limits of a translation, each once.
 
-ghost use Rattle.std.specs.Prelude.{◌≡◌};
+ghost use Rattle.std.specs.Prelude.{◌≡◌, ◌↔◌, IsTrue};
+ghost use Rattle.cxx_base.specs.LimitRanges.{InRange};
+ghost use Rattle.cxx_base.specs.declared.limits.TheConstants.{DEFAULT_STEPS, DEFAULT_DEPTH};
 
 /// The greatest length of a source, in bytes.
 pub const MAX_SOURCE: usize = 4_194_304;
@@ -74,3 +76,17 @@ impl Default for Limits {
         }
     }
 }
+
+impl Limits {
+    /// Whether they are such as an evaluation may be given: from 1 to [`MAX_STEPS`] steps, and from 1 to [`MAX_DEPTH`] calls.
+    pub fn are_in_range(self) -> bool
+        ensures { IsTrue result ↔ InRange self }
+    {
+        1 <= self.steps && self.steps <= MAX_STEPS && 1 <= self.depth && self.depth <= MAX_DEPTH
+    }
+}
+
+/// What an evaluation is given where nothing is asked for is in range.
+pub fn defaults_are_in_range()
+    ensures { InRange (record { steps = DEFAULT_STEPS; depth = DEFAULT_DEPTH }) }
+{}

@@ -1,10 +1,10 @@
 //! Numbered names.
 
 ghost use Rattle.std.specs.Prelude.{◌≡◌, ◌<◌, ◌^◌, length, slice_get, Some, OnOk, OnErr, IfOk, IfSome, is_some, codes};
-ghost use Rattle.cxx_base.specs.Library.{AreInPlace, BeginsWithLibrary, library_names};
+ghost use Rattle.cxx_base.specs.KeyedHash.{IsKeyedBy};
+ghost use Rattle.cxx_base.specs.Library.{AreInPlace, AreNames, BeginsWithLibrary, library_names};
 ghost use Rattle.cxx_base.specs.Texts.{number_of, with_text, has_text, AreDistinct};
 
-use crate::keyed_hash::KeyedHash;
 use crate::library::LIBRARY;
 use crate::memory::Memory;
 use crate::name::Name;
@@ -13,7 +13,7 @@ use std::alloc::Global;
 use std::marker::Model;
 
 /// The names of a source: a list of texts without repeats, in which those of the library come first. The number of a name is
-/// its place, which it keeps. Contracts see the list.
+/// its place, which it keeps. Their table hashes by the source. Contracts see the list.
 pub struct Names {
     texts: TextSet,
 }
@@ -26,13 +26,13 @@ impl Drop for Names {
 
 impl Model for Names {
     ghost use Rattle.std.specs.Prelude.{List, ℕ};
-    ghost use Rattle.cxx_base.specs.Library.{AreNames};
+    ghost use Rattle.cxx_base.specs.NameTable.{IsNameTable};
 
     ghost Value = { List (List ℕ) };
 
-    ghost view = { λ n. n.texts };
+    ghost view = { λ n. n.texts.texts };
 
-    ghost invariant = { λ n. AreNames n.texts };
+    ghost invariant = { λ n. IsNameTable n.texts };
 }
 
 impl Names {
@@ -45,16 +45,26 @@ impl Names {
         Names::of_source(alloc, &[])
     }
 
-    /// The names of the library, for those of a source of these bytes. The time that a name takes does not depend on how
-    /// the source chooses its names.
+    /// The names of the library, for those of a source of these bytes, which are the key of the table: names that were chosen
+    /// to fall together under another key do not under this one.
     pub fn of_source(alloc: Global, source: &[u8]) -> Result<Names, Memory>
         ensures names { IfOk result (λ names. names ≡ library_names) }
         ensures few { IfOk result (λ names. length names ≡ 69) }
         ensures std { IfOk result (λ names. number_of names (codes "std") ≡ 0) }
     {
-        let mut texts = TextSet::new(alloc, KeyedHash::of_source(source));
+        let mut texts = TextSet::of_source(alloc, source);
         texts.insert_each(&LIBRARY)?;
-        Ok(Names { texts })
+        Ok(Names::in_table_of(source, texts))
+    }
+
+    // The names that stand in the table of a source. (The code has no use for `source`: it is what the invariant speaks of.)
+    fn in_table_of(source: &[u8], texts: TextSet) -> Names
+        requires names { AreNames texts.texts }
+        requires keyed { IsKeyedBy source.now texts.hash }
+        ensures { result ≡ texts.texts }
+    {
+        let _source = source;
+        Names { texts }
     }
 
     /// The number of a text, which goes to the end where it is new. Without memory nothing changes.

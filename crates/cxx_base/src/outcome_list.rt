@@ -44,12 +44,14 @@ impl<O> OutcomeList<O> {
         self.outcomes.get(k.0 as usize)
     }
 
+    /// All outcomes, in the order of their pieces.
     pub fn as_slice(&self) -> &[O]
         ensures { result.now ≡ self.now }
     {
         self.outcomes.as_slice()
     }
 
+    /// How many outcomes there are.
     pub fn len(&self) -> usize
         ensures { result ≡ length self.now }
     {

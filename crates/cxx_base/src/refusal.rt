@@ -3,6 +3,7 @@
 ghost use Rattle.std.specs.Prelude.{◌≡◌};
 ghost use Rattle.cxx_base.specs.Refusals as spec;
 
+use crate::cause;
 use crate::code::Code;
 use crate::note::Notes;
 use crate::number::PieceNo;
@@ -12,8 +13,8 @@ use crate::place::Place;
 #[derive(Clone, Copy, Debug, PartialEq, Eq, Hash)]
 pub struct Refusal {
     pub code: Code,
-    /// For `R1` the number of the piece that is refused. For `V1` and `V14` the place of the cause, counted from 0, in
-    /// the code's line of causes, where a greater number counts as the last cause. Else 0.
+    /// For `R1` the number of the piece that is refused. For `V1` and `V14` the cause, by its constant in
+    /// [`cause`](crate::cause). Else [`cause::ONE`](crate::cause::ONE).
     pub detail: u64,
     /// Where the report says that it is.
     pub place: Place,
@@ -30,7 +31,7 @@ impl Refusal {
     {
         Refusal {
             code,
-            detail: 0,
+            detail: cause::ONE,
             place,
             inner: None,
             notes: Notes::NONE,

@@ -25,12 +25,14 @@ impl Model for Ticks {
 }
 
 impl Ticks {
+    /// No step yet.
     pub fn new() -> Ticks
         ensures { result ≡ 0 }
     {
         Ticks { count: 0 }
     }
 
+    /// Adds so many steps. The sum has to fit into 64 bits.
     pub fn add(&mut self, n: u64)
         requires { self.old + n < 2 ^ 64 }
         ensures { self.new ≡ self.old + n }
@@ -38,6 +40,7 @@ impl Ticks {
         self.count += n;
     }
 
+    /// How many steps there were.
     pub fn count(&self) -> u64
         ensures { result ≡ self.now }
     {

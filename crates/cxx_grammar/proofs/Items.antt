@@ -16,7 +16,6 @@ use Rattle.cxx_grammar.specs.Nesting as nesting
 use Rattle.cxx_grammar.specs.Units as units
 use Rattle.cxx_grammar.specs.Units.{Derived, Refused}
 use Rattle.cxx_grammar.specs.Laws.{Behind, Start, Next, IsDecided}
-use Rattle.cxx_reading.proofs.Forward.{steps}
 use Rattle.cxx_reading.proofs.Rises.{rising, rises_longer}
 use Rattle.cxx_grammar.proofs.Tables.{tables}
 use Rattle.cxx_grammar.proofs.Shallow as shallow

@@ -1,5 +1,5 @@
 -- The rules at a level, from those one level deeper.
-use Rattle.std.proofs.Common.{◌≡◌, ℕ, suc, ◌+◌, ◌-◌, ◌≤◌, ap, arith}
+use Rattle.std.proofs.Common.{◌≡◌, ℕ, suc, ◌+◌, ◌≤◌, ap, arith}
 use Rattle.cxx_base.specs.declared.limits.TheConstants.{TOO_DEEP}
 use Rattle.cxx_tokens.specs.declared.token.Tokens.{Tokens}
 use Rattle.cxx_reading.specs.Reading.{No, TooDeep}

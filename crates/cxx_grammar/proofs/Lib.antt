@@ -11,6 +11,7 @@ pub mod Items
 pub mod JoinedForms
 pub mod PrimaryArms
 pub mod SuffixArms
+pub mod Looks
 pub mod Chains
 pub mod UnaryArms
 pub mod SizedForms

@@ -1,5 +1,5 @@
 -- At most one of the forms of a suffix begins with a token, or they are read as one.
-use Rattle.std.proofs.Common.{◌≡◌, ℕ, false, ◌||◌, Option, Some, None, refl}
+use Rattle.std.proofs.Common.{◌≡◌, ℕ, Bool, true, false, ◌||◌, Option, Some, None, refl}
 use Rattle.std.proofs.lemmas.Bool.{ne_eqb}
 use Rattle.cxx_tokens.specs.declared.token.Tokens.{Tokens}
 use Rattle.cxx_tokens.specs.declared.mark.TheConstants.{LEFT_PAREN, LEFT_BRACKET, DOT, ARROW}
@@ -8,11 +8,16 @@ use Rattle.cxx_reading.specs.declared.seen.Seen.TheVariants.{Identifier, Integer
 use Rattle.cxx_reading.specs.Reading.{No, Nothing, kind, is_punctuator}
 use Rattle.cxx_reading.proofs.Starts.{Kinds, or_left, or_right, no_punctuator_at, longer_nothing}
 use Rattle.cxx_grammar.specs.Postfixes.{arrow, call_suffix, subscript_suffix, member_suffix, member_splice_suffix, any_member, suffix}
+use Rattle.cxx_grammar.specs.Joined.{begins_suffix}
 use Rattle.cxx_grammar.specs.Rules.{Rules}
 use Rattle.cxx_grammar.proofs.Begins.{no_args}
 
 abbrev pub starts_member : Kinds
 starts_member k = is_punctuator DOT k || is_punctuator ARROW k
+
+neither : (a b : Bool) → a ≡ false → b ≡ false → (a || b) ≡ false
+neither true b x y = x
+neither false b x y = y
 
 pub no_arrow : (tokens : Tokens) (i : ℕ) (k : Option Seen) → kind tokens i ≡ k → starts_member k ≡ false → arrow tokens i ≡ No Nothing
 unfolding arrow
@@ -50,6 +55,12 @@ module _ (tokens : Tokens) (deeper : Rules) (i : ℕ) where
   unfolding suffix
   suffix_punctuator n e a b = simp (no_call_suffix _ e (ne_eqb n LEFT_PAREN a), no_subscript_suffix _ e (ne_eqb n LEFT_BRACKET b))
 
+  pub suffix_other : (n : ℕ) → kind tokens i ≡ Some (Punctuator n) → (n ≡ LEFT_PAREN → ⊥) → (n ≡ LEFT_BRACKET → ⊥) → (n ≡ DOT → ⊥) → (n ≡ ARROW → ⊥) → suffix tokens deeper i ≡ No Nothing
+  unfolding suffix
+  suffix_other n e a b c d =
+      let member : starts_member (Some (Punctuator n)) ≡ false = neither _ _ (ne_eqb n DOT c) (ne_eqb n ARROW d) in
+      simp (no_call_suffix _ e (ne_eqb n LEFT_PAREN a), no_subscript_suffix _ e (ne_eqb n LEFT_BRACKET b), no_member_suffix _ e member, no_member_splice_suffix _ e member)
+
   pub suffix_identifier : kind tokens i ≡ Some Identifier → suffix tokens deeper i ≡ No Nothing
   unfolding suffix
   suffix_identifier e = simp (no_call_suffix _ e refl, no_subscript_suffix _ e refl, no_member_suffix _ e refl, no_member_splice_suffix _ e refl)
@@ -74,4 +85,13 @@ module _ (tokens : Tokens) (deeper : Rules) (i : ℕ) where
   unfolding suffix
   suffix_none e = simp (no_call_suffix _ e refl, no_subscript_suffix _ e refl, no_member_suffix _ e refl, no_member_splice_suffix _ e refl)
 
-pub ruleset suffix_arms = (suffix_call, suffix_subscript, suffix_punctuator, suffix_identifier, suffix_integer, suffix_character, suffix_text, suffix_word, suffix_none)
+  pub no_suffix : begins_suffix (kind tokens i) ≡ false → suffix tokens deeper i ≡ No Nothing
+  unfolding suffix
+  no_suffix h =
+      let a : is_punctuator LEFT_PAREN (kind tokens i) ≡ false = or_left _ _ h in
+      let bc : (is_punctuator LEFT_BRACKET (kind tokens i) || starts_member (kind tokens i)) ≡ false = or_right (is_punctuator LEFT_PAREN (kind tokens i)) _ h in
+      let b : is_punctuator LEFT_BRACKET (kind tokens i) ≡ false = or_left _ _ bc in
+      let c : starts_member (kind tokens i) ≡ false = or_right (is_punctuator LEFT_BRACKET (kind tokens i)) _ bc in
+      simp (no_call_suffix _ refl a, no_subscript_suffix _ refl b, no_member_suffix _ refl c, no_member_splice_suffix _ refl c)
+
+pub ruleset suffix_arms = (suffix_call, suffix_subscript, suffix_punctuator, suffix_other, suffix_identifier, suffix_integer, suffix_character, suffix_text, suffix_word, suffix_none)

@@ -99,7 +99,7 @@ module _ (tokens : Tokens) where
     based_splice = do x ← here.splice; pure (based-of.Splice x)
 
     unfoldable pub based_typename : Rule BasedTree
-    based_typename = do w keyword.TYPENAME; x ← here.splice; pure (based-of.Typename x)
+    based_typename = node tokens (do w keyword.TYPENAME; x ← here.splice; pure (λ s. based-of.Typename s x))
 
     unfoldable pub based : Rule BasedTree
     based = based_name <|> based_splice <|> based_typename

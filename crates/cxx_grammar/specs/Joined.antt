@@ -1,6 +1,6 @@
 -- Forms that share a beginning, each read as one, as the parsers read them. Nobody need believe this file: in proofs/ each
 -- is shown to give what the grammar's own forms give.
-use Rattle.std.specs.Prelude.{ℕ, zero, suc, if◌then◌else◌, [], Option, Some, None}
+use Rattle.std.specs.Prelude.{ℕ, zero, suc, Bool, ◌||◌, if◌then◌else◌, [], Option, Some, None}
 use Rattle.cxx_base.specs.declared.place.Span.{Span}
 use Rattle.cxx_tree.specs.declared.identifier.NameTree.{NameTree}
 use Rattle.cxx_tree.specs.declared.types.Fund.{Fund}
@@ -14,15 +14,17 @@ use Rattle.cxx_tree.specs.declared.expr.TypeTree.{TypeTree}
 use Rattle.cxx_tree.specs.declared.expr.TypeTree.TheVariants as type-of
 use Rattle.cxx_tree.specs.declared.expr.BracedTree.{BracedTree}
 use Rattle.cxx_tokens.specs.declared.token.Tokens.{Tokens}
-use Rattle.cxx_tokens.specs.declared.mark.TheConstants.{AMPERSAND}
+use Rattle.cxx_tokens.specs.declared.mark.TheConstants.{AMPERSAND, ARROW, COMMA, DOT, LEFT_BRACKET, LEFT_PAREN}
 use Rattle.cxx_tokens.specs.declared.keyword.TheConstants.{CONST, TYPENAME}
-use Rattle.cxx_reading.specs.Reading.{End, Tree, No, Nothing, TooDeep, Rule, and_then, ◌>>=◌, ◌>>◌, ◌<|>◌, pure, present, optional, punctuator, word, repeated, from, node, span}
+use Rattle.cxx_reading.specs.declared.seen.Seen.{Seen}
+use Rattle.cxx_reading.specs.Reading.{End, Tree, No, Nothing, TooDeep, Rule, and_then, ◌>>=◌, ◌>>◌, ◌<|>◌, pure, present, optional, punctuator, is_punctuator, word, repeated, from, node, span}
+use Rattle.cxx_grammar.specs.declared.clause.Clauses.{Clauses}
 use Rattle.cxx_grammar.specs.declared.parts.SizedOperand.{SizedOperand}
 use Rattle.cxx_grammar.specs.declared.parts.SizedOperand.TheVariants as sized-of
 use Rattle.cxx_grammar.specs.Names.{vector_head, name, extracts}
 use Rattle.cxx_grammar.specs.Fundamentals.{fund}
 use Rattle.cxx_grammar.specs.Types.{pointers, basic_vector, splice, type_tree}
-use Rattle.cxx_grammar.specs.Lists.{braced}
+use Rattle.cxx_grammar.specs.Lists.{braced, clause, first_clause, more_clauses}
 use Rattle.cxx_grammar.specs.Primaries.{extract_of}
 use Rattle.cxx_grammar.specs.Postfixes.{with_suffixes, suffixes}
 use Rattle.cxx_grammar.specs.Unaries.{new_init}
@@ -50,7 +52,22 @@ by_head (Tree t j) vector named = vector
 by_head (No Nothing) vector named = named
 by_head (No TooDeep) vector named = No TooDeep
 
+-- a token with which a suffix begins
+abbrev pub begins_suffix : Option Seen → Bool
+begins_suffix k = is_punctuator LEFT_PAREN k || (is_punctuator LEFT_BRACKET k || (is_punctuator DOT k || is_punctuator ARROW k))
+
 module _ (tokens : Tokens) (deeper : Rules) where
+  -- the first clause of a list
+  unfoldable pub one_clause : Rule Clauses
+  one_clause = do x ← clause tokens deeper; pure (first_clause x)
+
+  -- behind the first clause
+  unfoldable pub clauses_from : Clauses → Rule Clauses
+  clauses_from found = do
+    all ← more_clauses tokens deeper found
+    present (punctuator tokens COMMA)
+    pure all
+
   -- behind a fundamental type
   unfoldable pub fund_rest : ℕ → Fund → Rule Expr
   fund_rest start f = λ j. and_then (new_init tokens deeper j) (λ m k. Tree (fund_made (span tokens start k) (span tokens start j) f m) k)

@@ -1,9 +1,9 @@
 -- What it is that a text derives a unit, without a bound on its items.
-use Rattle.std.specs.Prelude.{◌≡◌, ℕ, zero, suc, ◌<◌, ◌≤◌, Bool, true, false, List, [], ◌∷◌, ◌++◌, length, ◌⊎◌}
+use Rattle.std.specs.Prelude.{◌≡◌, ℕ, zero, ◌<◌, ◌≤◌, true, false, List, [], ◌∷◌, ◌++◌, length, ◌⊎◌}
 use Rattle.cxx_tree.specs.declared.decl.Item.{Item}
 use Rattle.cxx_tokens.specs.declared.token.Tokens.{Tokens}
 use Rattle.cxx_reading.specs.Reading.{Tree, No, Why, Nothing, left}
-use Rattle.cxx_grammar.specs.Units.{Derived, Derives, Refused, opens, closes_none, item, derived, unit}
+use Rattle.cxx_grammar.specs.Units.{Derived, Derives, Refused, opens, closes_none, item, derived}
 
 -- With more turns than there are tokens left the items from a token on are the same.
 abbrev pub EndsByItself : Tokens → Type 0

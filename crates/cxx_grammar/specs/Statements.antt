@@ -1,5 +1,5 @@
 -- Statements ([stmt]) at a level.
-use Rattle.std.specs.Prelude.{ℕ, ◌+◌, not, if◌then◌else◌, Option, Some, None}
+use Rattle.std.specs.Prelude.{ℕ, ◌+◌, not}
 use Rattle.cxx_tree.specs.declared.stmt.Stmt.{Stmt}
 use Rattle.cxx_tree.specs.declared.stmt.Stmt.TheVariants as stmt-of
 use Rattle.cxx_tree.specs.declared.stmt.ForInit.{ForInit}

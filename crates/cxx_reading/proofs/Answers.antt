@@ -3,7 +3,7 @@ use Rattle.std.proofs.Common.{◌≡◌, ◌≢◌, ℕ, List, [], ◌∷◌, �
 use Rattle.cxx_tokens.specs.declared.token.Tokens.{Tokens}
 use Rattle.cxx_reading.specs.declared.fault.ExprFault.{ExprFault}
 use Rattle.cxx_reading.specs.declared.fault.ExprFault.TheVariants.{S1, S2, Memory}
-use Rattle.cxx_reading.specs.Reading.{End, Tree, No, Why, Nothing, TooDeep, Rule, or_none, or_empty, repeated, why, Gives}
+use Rattle.cxx_reading.specs.Reading.{End, Tree, No, Why, Nothing, TooDeep, Rule, or_none, or_empty, if_any, repeated, why, Gives}
 use Rattle.cxx_reading.specs.Answers.{Post, LeavesNone, LeavesEmpty, ReadsRule, RepeatsRule, with_one}
 
 pub none_left : {A : Type 0} {read : Result (A × ℕ) ExprFault} {at : ℕ} {result : Result (Option A × ℕ) ExprFault} (x : End A) → LeavesNone read at result → Gives x read → Gives (or_none x at) result
@@ -11,6 +11,11 @@ none_left x c g = c.gives x g
 
 pub empty_left : {A : Type 0} {read : Result (List A × ℕ) ExprFault} {at : ℕ} {result : Result (List A × ℕ) ExprFault} (x : End (List A)) → LeavesEmpty read at result → Gives x read → Gives (or_empty x at) result
 empty_left x c g = c.gives x g
+
+-- the same of a rule that is called
+pub any_left : {A : Type 0} {read : Result (List A × ℕ) ExprFault} {result : Result (List A × ℕ) ExprFault} (q : Rule (List A)) (i : ℕ) → LeavesEmpty read i result → Gives (q i) read → Gives (if_any q i) result
+unfolding if_any
+any_left q i c g = c.gives (q i) g
 
 pub repeats : {A : Type 0} {tokens : Tokens} {post : Post A} {found : List A} {at : ℕ} {result : Result (List A × ℕ) ExprFault} (p : Rule A) → RepeatsRule tokens post found at result → ReadsRule p post → Gives (repeated tokens (with_one p) found at) result
 repeats p c reads = c.gives p reads

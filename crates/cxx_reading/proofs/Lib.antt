@@ -1,6 +1,7 @@
 pub mod Turns
 pub mod Factor
 pub mod Starts
+pub mod Identifiers
 pub mod Forward
 pub mod Rises
 pub mod Always

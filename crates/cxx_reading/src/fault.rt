@@ -2,18 +2,15 @@
 
 use cxx_base::Memory;
 use std::alloc::AllocError;
-use thiserror::Error;
 
 /// Why a rule gives no tree at a token.
-#[derive(Clone, Copy, Debug, PartialEq, Eq, Error)]
+#[derive(Clone, Copy, Debug, PartialEq, Eq)]
 pub enum ExprFault {
     /// Nothing of this rule begins there.
-    #[error("nothing begins there")]
     S1,
     /// The rule is too deep there.
-    #[error("the nesting is too deep")]
     S2,
-    #[error("no memory was found")]
+    /// No memory was found for the tree.
     Memory,
 }
 

@@ -22,7 +22,7 @@ pub use longest::longer;
 pub use missing::{if_any, optional};
 pub use reader::Reader;
 pub use repetition::repeat;
-pub use seen::{Seen, kind_ahead, kind_at, sees, sees_identifier, sees_word};
+pub use seen::{Seen, kind_ahead, kind_at, sees, sees_ahead, sees_identifier, sees_word};
 pub use step::{
     character, eat, eat_word, expect, expect_word, identifier, integer, left, span, text,
 };

@@ -1,6 +1,8 @@
 //! Parts that may be missing.
 
+ghost use Rattle.std.specs.Prelude.{◌≡◌};
 ghost use Rattle.cxx_reading.specs.Answers.{LeavesNone, LeavesEmpty};
+ghost use Rattle.cxx_reading.specs.Reading.{is_memory};
 
 use crate::fault::ExprFault;
 use containers::Items;
@@ -11,7 +13,8 @@ pub fn optional<A: Drop>(
     read: Result<(A, u32), ExprFault>,
     at: u32,
 ) -> Result<(Option<A>, u32), ExprFault>
-    ensures { LeavesNone read at result }
+    ensures left { LeavesNone read at result }
+    ensures memory { is_memory result ≡ is_memory read }
 {
     match read {
         Ok((x, end)) => Ok((Some(x), end)),
@@ -27,7 +30,8 @@ pub fn if_any<A: Drop>(
     read: Result<(Items<A>, u32), ExprFault>,
     at: u32,
 ) -> Result<(Items<A>, u32), ExprFault>
-    ensures { LeavesEmpty read at result }
+    ensures left { LeavesEmpty read at result }
+    ensures memory { is_memory result ≡ is_memory read }
 {
     match read {
         Ok((found, end)) => Ok((found, end)),

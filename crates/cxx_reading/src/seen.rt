@@ -62,6 +62,16 @@ pub fn sees(tokens: &Tokens, mark: u32, at: u32) -> bool
     }
 }
 
+/// Whether this punctuator stands so many tokens later.
+pub fn sees_ahead(tokens: &Tokens, mark: u32, at: u32, ahead: u32) -> bool
+    ensures { result ≡ spec.sees_punctuator tokens.now mark (at + ahead) }
+{
+    match kind_ahead(tokens, at, ahead) {
+        Some(Seen::Punctuator(n)) => n == mark,
+        _ => false,
+    }
+}
+
 /// Whether this word stands there.
 pub fn sees_word(tokens: &Tokens, word: u32, at: u32) -> bool
     ensures { result ≡ spec.sees_word tokens.now word at }

@@ -1,5 +1,5 @@
 -- Cuts behind cuts.
-use Rattle.std.proofs.Common.{◌≡◌, ℕ, suc, ◌+◌, ◌-◌, ◌<◌, true, false, true≢false, eqb, [], ◌∷◌, length, take, drop, chars, sym, ap, ◌∙◌, arith}
+use Rattle.std.proofs.Common.{◌≡◌, ℕ, suc, ◌+◌, ◌-◌, ◌<◌, true, true≢false, eqb, [], ◌∷◌, length, take, drop, chars, sym, ap, ◌∙◌, arith}
 use Rattle.std.proofs.lemmas.Bool.{and_from, and_parts, eqb-true}
 use Rattle.std.specs.List.{list_all, prefix_len}
 use Rattle.cxx_base.specs.Texts.{Text}

@@ -1,19 +1,19 @@
 -- The scan of a text is its cut into gaps and tokens, and there is one cut.
-use Rattle.std.proofs.Common.{◌≡◌, ◌⊎◌, inl, inr, ◌==◌, ℕ, zero, suc, ◌+◌, ◌-◌, ◌<◌, ◌≤◌, Bool, true, false, not, List, [], ◌∷◌, ◌++◌, length, take, drop, codes, fold, Option, Some, None, Result, Ok, Err, refl, sym, ap, subst, ◌∙◌, arith, true≢false}
+use Rattle.std.proofs.Common.{◌≡◌, ◌⊎◌, inl, inr, ℕ, zero, suc, ◌+◌, ◌-◌, ◌<◌, ◌≤◌, Bool, true, false, List, [], ◌∷◌, ◌++◌, length, take, drop, codes, Option, Some, None, Result, Ok, Err, refl, sym, ap, subst, ◌∙◌, arith, true≢false}
 use Rattle.std.proofs.Math.Seq.{take-append_seam}
 use Rattle.std.proofs.lemmas.List.{append-nil, append_assoc, length-append, length-drop, length-take-le, take-append-drop}
 use Rattle.std.specs.Str.{is_utf8}
-use Rattle.cxx_base.specs.Texts.{Text, with_texts}
+use Rattle.cxx_base.specs.Texts.{Text}
 use Rattle.cxx_base.specs.declared.place.Place.{Place}
 use Rattle.cxx_tokens.specs.Characters.{Characters, after, after_all, begins_with, characters_of, start}
-use Rattle.cxx_tokens.specs.Cutting.{AreOne, IsCut, IsCutUpTo, IsGap, IsLexed, IsStuck, IsToken, Said, Span, Gap, Piece, Stands, Cut, Stuck, NoCharacters, characters_in, code_at, is_first_behind, joined, kind_by, last_line, names_by, said_of, tokens_in, with_token}
-use Rattle.cxx_tokens.specs.Faults.{Fault, L1, L4}
+use Rattle.cxx_tokens.specs.Cutting.{AreOne, IsCutUpTo, IsGap, IsLexed, Said, Span, Gap, Piece, Stands, Cut, Stuck, NoCharacters, characters_in, is_first_behind, joined, kind_by, last_line, names_by, said_of, tokens_in, with_token}
+use Rattle.cxx_tokens.specs.Faults.{Fault}
 use Rattle.cxx_tokens.specs.Gaps.{gap_at}
-use Rattle.cxx_tokens.specs.Lex.{Found, Lexed, behind, lex, lex_characters, lex_from, members, token_at, token_from}
+use Rattle.cxx_tokens.specs.Lex.{Found, Lexed, behind, lex, lex_characters, lex_from, token_at, token_from}
 use Rattle.cxx_tokens.specs.Munch.{IsLongest}
 use Rattle.cxx_tokens.specs.declared.token.Token.{Token}
 use Rattle.cxx_tokens.proofs.GapForms.{GapFound, gap_found, gap_is_found, gap_refused, no_gap_no_comment}
-use Rattle.cxx_tokens.proofs.TokenForms.{TokenFound, comment_refused, fault_at, found_by, one_longest, tail_of, token_found, token_is_found, token_refused}
+use Rattle.cxx_tokens.proofs.TokenForms.{comment_refused, fault_at, found_by, one_longest, tail_of, token_found, token_is_found, token_refused}
 use Rattle.cxx_tokens.proofs.Turning.{first_is_gone}
 
 -- ---- cuts from left to right

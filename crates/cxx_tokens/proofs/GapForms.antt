@@ -1,7 +1,7 @@
 -- The gaps that the scan finds are those of the definition.
-use Rattle.std.proofs.Common.{◌≡◌, ℕ, zero, suc, ◌+◌, ◌<◌, ◌≤◌, Bool, true, false, ◌&&◌, ◌||◌, not, cond, eqb, [], ◌∷◌, ◌++◌, length, take, drop, codes, Option, Some, None, option_map, Result, Ok, Err, refl, sym, ap, subst, ◌∙◌, arith, true≢false}
-use Rattle.std.proofs.lemmas.Bool.{and_parts, and_from, eqb-true, eqb-false}
-use Rattle.std.proofs.lemmas.List.{length-append, length-take-le, take-append-drop}
+use Rattle.std.proofs.Common.{◌≡◌, ℕ, suc, ◌+◌, ◌<◌, ◌≤◌, Bool, true, false, ◌&&◌, not, cond, eqb, [], ◌∷◌, ◌++◌, length, take, drop, codes, Option, Some, None, option_map, Ok, Err, refl, sym, ap, subst, ◌∙◌, arith, true≢false}
+use Rattle.std.proofs.lemmas.Bool.{and_parts, and_from, eqb-true}
+use Rattle.std.proofs.lemmas.List.{length-append}
 use Rattle.std.proofs.lemmas.List.Sums.{prefix_len-le-length}
 use Rattle.std.specs.List.{list_all, prefix_len}
 use Rattle.cxx_base.specs.declared.place.Place.{Place}
@@ -11,6 +11,7 @@ use Rattle.cxx_tokens.specs.Faults.{Fault, L4}
 use Rattle.cxx_tokens.specs.Gaps.{block_len, comment_at, ended, gap_at, is_skipped, skipped_len}
 use Rattle.cxx_tokens.specs.Literals.{is_line_end}
 use Rattle.cxx_tokens.proofs.Fronts.{run_front}
+use Rattle.cxx_tokens.proofs.SkippedForms.{skipped_is_scanned, scanned_is_skipped}
 
 -- ---- lines
 
@@ -156,7 +157,7 @@ gap_is_found first front rest (skipped is text h s e) place =
     let run = line_len text rest e in
     let whole : take (prefix_len is_in_line (text ++ rest)) (text ++ rest) ≡ text = ap (λ n. take n (text ++ rest)) run ∙ front_of text rest in
     let n : 1 + prefix_len is_in_line (text ++ rest) ≡ length (number_sign ∷ text) = omega (arith, run) in
-    let yes : is_skipped (take (prefix_len is_in_line (text ++ rest)) (text ++ rest)) ≡ true = ap is_skipped whole ∙ s in
+    let yes : is_skipped (take (prefix_len is_in_line (text ++ rest)) (text ++ rest)) ≡ true = ap is_skipped whole ∙ skipped_is_scanned text s in
     ap (λ front. gap_at place first (front ++ rest)) h ∙ ap (λ b. cond b (Ok (skipped_len (text ++ rest))) (Ok None)) is
     ∙ ap (λ b. Ok (cond b (Some (1 + prefix_len is_in_line (text ++ rest))) None)) yes
     ∙ ap (λ n. Ok (Some n)) n ∙ ap (λ front. Ok (Some (length front))) (sym h)
@@ -222,7 +223,7 @@ skipped_found text n h = by (is_skipped (take (prefix_len is_in_line text) text)
         let few = prefix_len-le-length is_in_line text in
         let one : 1 + k ≡ suc k = omega arith in
         subst (GapFound true (number_sign ∷ text)) (sym one ∙ long)
-        (record { some = omega arith; within = omega (arith, few); gap = skipped refl (take k text) refl e (ends_here text) })
+        (record { some = omega arith; within = omega (arith, few); gap = skipped refl (take k text) refl (scanned_is_skipped (take k text) e) (ends_here text) })
     by false e h = cc h
 
 pub gap_found : (first : Bool) (place : Place) (text : Characters) (n : ℕ) → gap_at place first text ≡ Ok (Some n) → GapFound first text n

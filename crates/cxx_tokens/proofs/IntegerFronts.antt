@@ -4,8 +4,7 @@ use Rattle.std.proofs.lemmas.Bool.{and_parts, eqb-true}
 use Rattle.std.proofs.lemmas.Bool.Decides.{nat_tests}
 use Rattle.std.proofs.lemmas.List.{length-take-le}
 use Rattle.std.specs.Char.{is_ascii_digit}
-use Rattle.unicode_ident.proofs.IdentLemmas.{is_xid_continue-ascii}
-use Rattle.cxx_tokens.specs.Characters.{Characters, begins_with, continues_identifier, first_is, is_digit_in}
+use Rattle.cxx_tokens.specs.Characters.{Characters, begins_with, first_is, is_digit_in}
 use Rattle.cxx_tokens.specs.Literals.{base_of, digits_len, has_prefix, integer_at, prefix_len_of, radix, suffix_of}
 use Rattle.cxx_tokens.specs.Munch.{is_integer, is_number}
 use Rattle.cxx_tokens.specs.declared.integer.Base.{Base}

@@ -4,11 +4,13 @@ pub mod CharacterFronts
 pub mod Composed
 pub mod Cut
 pub mod CutLaws
+pub mod FewTokens
 pub mod Fronts
 pub mod GapForms
 pub mod Gaps
 pub mod IntegerFronts
 pub mod Integers
+pub mod KnownNames
 pub mod Lines
 pub mod Literals
 pub mod MarkFronts
@@ -17,6 +19,8 @@ pub mod NumberFronts
 pub mod OpenStrings
 pub mod Runs
 pub mod Search
+pub mod ShortMarks
+pub mod SkippedForms
 pub mod Sources
 pub mod StringFronts
 pub mod Told

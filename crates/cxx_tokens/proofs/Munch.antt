@@ -11,7 +11,7 @@ use Rattle.cxx_base.specs.Texts.{Text}
 use Rattle.cxx_base.specs.declared.place.Place.{Place}
 use Rattle.unicode_ident.proofs.IdentLemmas.{is_xid_start-ascii}
 use Rattle.cxx_tokens.specs.Characters.{Characters, begins_identifier, begins_with, continues_identifier, double_quote, first_is, is_digit_in, single_quote}
-use Rattle.cxx_tokens.specs.Lex.{◌>>=◌, Found, character_token, integer_kind, integer_token, is_identifier, is_short_and_composed, kind_or_too_large, names_with_string, names_with_word, punctuator_token, reserved, string_token, word_kind, word_len, word_token}
+use Rattle.cxx_tokens.specs.Lex.{◌>>=◌, Found, character_token, integer_kind, integer_token, is_identifier, is_short_and_composed, kind_or_too_large, names_with_string, names_with_word, punctuator_token, reserved, word_kind, word_len, word_token}
 use Rattle.cxx_tokens.specs.declared.token.TokenKind.{TokenKind}
 use Rattle.cxx_tokens.specs.declared.token.TokenKind.TheVariants as kind
 use Rattle.cxx_tokens.specs.Literals.{Escape, Integer, Quoted, character_at, integer_at, string_at}

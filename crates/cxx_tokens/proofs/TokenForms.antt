@@ -1,18 +1,17 @@
 -- The tokens that the scan finds are those of the definition, and where it finds none there is none.
-use Rattle.std.proofs.Common.{◌≡◌, ◌⊎◌, inl, inr, ℕ, zero, suc, ◌+◌, ◌<◌, ◌≤◌, Bool, true, false, ◌&&◌, ◌||◌, not, cond, eqb, List, [], ◌∷◌, ◌++◌, length, take, drop, codes, encode_utf8_all, Option, Some, None, option_map, Result, Ok, Err, refl, sym, ap, subst, ◌∙◌, arith, true≢false}
+use Rattle.std.proofs.Common.{◌≡◌, ◌⊎◌, inl, inr, ℕ, zero, suc, ◌+◌, ◌<◌, ◌≤◌, Bool, true, false, cond, eqb, List, [], ◌∷◌, ◌++◌, length, take, drop, codes, encode_utf8_all, Option, Some, None, option_map, Result, Ok, Err, refl, sym, ap, ◌∙◌, arith, true≢false}
 use Rattle.std.proofs.Math.Seq.{take-append_seam}
-use Rattle.std.proofs.lemmas.Bool.{and_parts, cases_lt, eqb-true, eqb-false, false_from_ne_true}
-use Rattle.std.proofs.lemmas.List.{length-append, length-take-le, take-append-drop}
+use Rattle.std.proofs.lemmas.Bool.{and_parts, cases_lt, eqb-true, eqb-false}
+use Rattle.std.proofs.lemmas.List.{take-append-drop}
 use Rattle.std.specs.Char.{is_ascii_digit}
 use Rattle.std.specs.Prelude.{encode_utf8}
 use Rattle.cxx_base.specs.Texts.{Text}
 use Rattle.cxx_base.specs.declared.place.Place.{Place}
-use Rattle.cxx_base.specs.declared.code.Code.{Code}
 use Rattle.cxx_base.specs.declared.code.Code.TheVariants as code
-use Rattle.cxx_tokens.specs.Characters.{Characters, backslash, begins_identifier, begins_with, continues_identifier, double_quote, first_is, line_feed, single_quote, slash, star, start}
-use Rattle.cxx_tokens.specs.Cutting.{Said, Named, Plain, Quoting, character_said, code_at, integer_said, is_open, kind_by, names_by, punctuator_said, said_of, string_said, word_by, word_said}
+use Rattle.cxx_tokens.specs.Characters.{Characters, backslash, begins_identifier, begins_with, continues_identifier, double_quote, first_is, line_feed, single_quote, slash, start}
+use Rattle.cxx_tokens.specs.Cutting.{Said, Plain, Quoting, character_said, code_at, integer_said, is_open, kind_by, names_by, punctuator_said, said_of, string_said, word_by, word_said}
 use Rattle.cxx_tokens.specs.Faults.{Fault, L2, L3, L4, L5}
-use Rattle.cxx_tokens.specs.Lex.{◌>>=◌, Found, character_token, integer_kind, integer_token, is_short_and_composed, kind_or_too_large, names_with_string, names_with_word, punctuator_token, reserved, string_token, token_at, word_kind, word_len, word_token}
+use Rattle.cxx_tokens.specs.Lex.{◌>>=◌, Found, character_token, integer_kind, integer_token, is_short_and_composed, kind_or_too_large, names_with_string, names_with_word, punctuator_token, reserved, token_at, word_kind, word_len, word_token}
 use Rattle.cxx_tokens.specs.Literals.{Escape, Integer, Quoted, behind_one, no_escape, unless_none, character_at, escape_at, integer_at, string_at, string_from}
 use Rattle.cxx_tokens.specs.Munch.{IsLongest, is_form}
 use Rattle.cxx_tokens.specs.Punctuators.{Punctuator, is_bracket_and_scope, punctuator_at}
@@ -21,7 +20,7 @@ use Rattle.cxx_tokens.specs.declared.token.TokenKind.{TokenKind}
 use Rattle.cxx_tokens.specs.declared.token.TokenKind.TheVariants as kind
 use Rattle.cxx_tokens.proofs.Beginnings.{at_end, character_here, integer_here, punctuator_here, string_here, word_here}
 use Rattle.cxx_tokens.proofs.Munch.{character_longest, character_ok, integer_longest, integer_ok, longest_at_its_place, mark_longest, mark_ok, no_word_begins, string_longest, string_ok, word_longest, word_ok}
-use Rattle.cxx_tokens.proofs.OpenStrings.{pick, refused_string, why}
+use Rattle.cxx_tokens.proofs.OpenStrings.{pick, refused_string}
 use Rattle.cxx_tokens.proofs.StringFronts.{behind_is}
 
 -- there is one longest front

@@ -4,7 +4,7 @@ use Rattle.cxx_base.specs.Texts.{Text, has_text}
 use Rattle.cxx_tokens.specs.Characters.{characters_of}
 use Rattle.cxx_tokens.specs.Cutting.{IsLexed}
 use Rattle.cxx_tokens.specs.Gives.{GivesCut, GivesTokens}
-use Rattle.cxx_tokens.specs.Lex.{Lexed, lex, members}
+use Rattle.cxx_tokens.specs.Lex.{lex, members}
 use Rattle.cxx_tokens.specs.Usable.{AreUsable, IsKnown, Rise}
 use Rattle.cxx_tokens.specs.declared.fault.LexFault.{LexFault}
 use Rattle.cxx_tokens.specs.declared.fault.LexFault.TheVariants.{L1, L2, L3, L4, L5, Memory}

@@ -1,24 +1,24 @@
 -- What users of tokens lean on holds of the tokens of each cut.
-use Rattle.std.proofs.Common.{◌≡◌, ◌⊎◌, inl, inr, ℕ, zero, suc, ◌+◌, ◌<◌, ◌≤◌, Bool, true, false, ◌&&◌, ◌||◌, not, cond, eqb, ltb, List, [], ◌∷◌, ◌++◌, length, take, drop, chars, codes, encode_utf8_all, Option, Some, None, is_some, option_map, Result, Ok, Err, All, refl, sym, ap, subst, ◌∙◌, arith, true≢false}
-use Rattle.std.proofs.lemmas.Bool.{eqb-true, ltb-true}
+use Rattle.std.proofs.Common.{◌≡◌, ◌⊎◌, inl, inr, ℕ, ◌+◌, ◌<◌, ◌≤◌, Bool, true, false, ◌&&◌, ◌||◌, not, cond, eqb, ltb, List, [], ◌∷◌, ◌++◌, length, take, codes, encode_utf8_all, Option, Some, None, is_some, Result, Ok, All, refl, sym, ap, subst, ◌∙◌, arith, true≢false}
+use Rattle.std.proofs.lemmas.Bool.{ltb-true}
 use Rattle.std.proofs.lemmas.List.{append-nil, append_assoc, length-append}
 use Rattle.std.proofs.lemmas.List.Elements.{All-cons}
 use Rattle.std.proofs.lemmas.List.Folds.{list_any-append}
 use Rattle.std.proofs.lemmas.Iterator.Adapters.{position_from-zero}
 use Rattle.std.specs.Char.{is_ascii_digit}
-use Rattle.std.specs.List.{list_any, position_from, position_or_len}
+use Rattle.std.specs.List.{list_any, position_or_len}
 use Rattle.std.specs.Str.{bytes_eq, is_utf8}
 use Rattle.std.specs.Cmp.Lexicographic.{bytes_decides}
 use Rattle.cxx_base.specs.Texts.{Text, has_text, number_of, with_text, with_texts}
 use Rattle.cxx_base.specs.declared.place.Place.{Place}
 use Rattle.int_kinds.specs.Literal.{kind_of_literal}
 use Rattle.cxx_tokens.specs.Characters.{Characters, after, after_all, begins_identifier, begins_with, characters_of, double_quote, line_feed, single_quote, start}
-use Rattle.cxx_tokens.specs.Cutting.{IsCut, IsLexed, Said, Span, Gap, Piece, Named, Plain, Quoting, Stands, Cut, Stuck, NoCharacters, character_said, characters_in, integer_said, joined, kind_by, names_by, punctuator_said, said_of, string_said, tokens_in, word_by, word_said}
+use Rattle.cxx_tokens.specs.Cutting.{IsCut, IsLexed, Said, Span, Gap, Piece, Named, Plain, Quoting, Cut, Stuck, NoCharacters, character_said, integer_said, joined, kind_by, names_by, punctuator_said, said_of, string_said, tokens_in, word_by, word_said}
 use Rattle.cxx_tokens.specs.Faults.{Fault}
 use Rattle.cxx_tokens.specs.Gives.{Keeps}
-use Rattle.cxx_tokens.specs.Lex.{Lexed, before_zero, integer_kind, is_name, is_short_and_composed, members, names_with_string, reserved, token_from}
-use Rattle.cxx_tokens.specs.Literals.{Escape, Integer, Quoted, character_at, integer_at, string_at}
-use Rattle.cxx_tokens.specs.Punctuators.{Punctuator, is_bracket_and_scope, longer, longest, longest_from, punctuator_at}
+use Rattle.cxx_tokens.specs.Lex.{Lexed, before_zero, integer_kind, is_name, members, reserved, token_from}
+use Rattle.cxx_tokens.specs.Literals.{Escape, Integer, character_at, integer_at, string_at}
+use Rattle.cxx_tokens.specs.Punctuators.{Punctuator, is_bracket_and_scope, longer, longest_from, punctuator_at}
 use Rattle.cxx_tokens.specs.Tables.{punctuators, words}
 use Rattle.cxx_tokens.specs.Usable.{AreUsable, IsBefore, IsKnown, LexedAreUsable, Rise}
 use Rattle.cxx_tokens.specs.declared.token.Token.{Token}

@@ -10,11 +10,11 @@ use Rattle.cxx_base.specs.declared.code.Code.{Code}
 use Rattle.cxx_base.specs.declared.code.Code.TheVariants as code
 use Rattle.cxx_tokens.specs.Characters.{Characters, characters_of, after_all, start, is_space, is_in_line, begins_identifier, continues_identifier, begins_with, first_is, backslash, double_quote, line_feed, number_sign, single_quote}
 use Rattle.cxx_tokens.specs.Faults.{Fault, L1}
-use Rattle.cxx_tokens.specs.Gaps.{is_skipped}
 use Rattle.cxx_tokens.specs.Lex.{Lexed, integer_kind, is_short_and_composed, members, names_with_string, reserved, token_from}
 use Rattle.cxx_tokens.specs.Literals.{Escape, Integer, Quoted, character_at, escape_at, integer_at, is_line_end, string_at}
 use Rattle.cxx_tokens.specs.Munch.{IsLongest}
 use Rattle.cxx_tokens.specs.Punctuators.{Punctuator, punctuator_at}
+use Rattle.cxx_tokens.specs.SkippedLines.{IsSkipped}
 use Rattle.cxx_tokens.specs.declared.token.Token.{Token}
 use Rattle.cxx_tokens.specs.declared.token.TokenKind.{TokenKind}
 use Rattle.cxx_tokens.specs.declared.token.TokenKind.TheVariants as kind
@@ -26,7 +26,7 @@ pub data Said : Type 0 where
   Plain : TokenKind → Said
   Quoting : Text → Said
 
--- a word is one of the list or an identifier, which has at most 255 bytes and is in normalization form C
+-- a word is one of the list or an identifier, which is no longer than one may be and is in normalization form C
 abbrev pub word_by : Text → Option ℕ → Said
 word_by text (Some word) = Plain (kind.Word word)
 word_by text None = Named text
@@ -73,7 +73,7 @@ pub data IsGap (is_first : Bool) (front rest : Characters) : Type 0 where
   line : (text : Characters) → front ≡ codes "//" ++ text → ends_line text rest ≡ true → IsGap is_first front rest
   block : (text : Characters) → front ≡ codes "/*" ++ (text ++ codes "*/")
       → ((other behind : Characters) → codes "/*" ++ (other ++ (codes "*/" ++ behind)) ≡ front → behind ≡ []) → IsGap is_first front rest
-  skipped : is_first ≡ true → (text : Characters) → front ≡ number_sign ∷ text → is_skipped text ≡ true → ends_line text rest ≡ true → IsGap is_first front rest
+  skipped : is_first ≡ true → (text : Characters) → front ≡ number_sign ∷ text → IsSkipped text → ends_line text rest ≡ true → IsGap is_first front rest
 
 -- ---- tokens ([lex.pptoken])
 

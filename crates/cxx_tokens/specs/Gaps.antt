@@ -41,7 +41,7 @@ is_no_quote c = not (c == double_quote)
 abbrev pub is_flags : Characters → Bool
 is_flags text = list_all (λ c. is_blank c || is_ascii_digit c) text
 
--- behind one character, which is the quote that is_end_of_marker a text: digits and blanks alone
+-- behind one character, which is the quote that ends a text: digits and blanks alone
 abbrev pub is_end_of_marker : Characters → Bool
 is_end_of_marker [] = false
 is_end_of_marker (c ∷ text) = is_flags text
@@ -63,7 +63,7 @@ is_header text = begins_with (codes "<meta>") text && is_empty (past is_blank (d
 abbrev pub is_include : Characters → Bool
 is_include text = begins_with (codes "include") text && is_header (past is_blank (drop (length (codes "include")) text))
 
--- what follows the `#` of a line that is skipped; blanks may stand between the parts, and none has to
+-- what follows the `#` of a line that is skipped, as `SkippedLines` says it; blanks may stand between the parts, and none has to
 abbrev pub is_skipped : Characters → Bool
 is_skipped line = let text = past is_blank line in is_marker text || is_include text
 

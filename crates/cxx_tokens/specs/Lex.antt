@@ -5,6 +5,7 @@ use Rattle.std.specs.List.{list_all, position_from, prefix_len}
 use Rattle.std.specs.Option.{is_none, is_some}
 use Rattle.std.specs.Str.{bytes_eq, is_utf8}
 use Rattle.cxx_base.specs.Texts.{Text, number_of, with_text, with_texts}
+use Rattle.cxx_base.specs.declared.limits.TheConstants.{MAX_IDENTIFIER}
 use Rattle.cxx_base.specs.declared.place.Place.{Place}
 use Rattle.int_kinds.specs.Literal.{kind_of_literal}
 use Rattle.unicode_normalization.specs.Forms.{is_in_form}
@@ -39,9 +40,9 @@ abbrev pub word_len : Characters → ℕ
 word_len [] = 0
 word_len (c ∷ text) = 1 + prefix_len continues_identifier text
 
--- at most 255 bytes, and in normalization form C
+-- no more bytes than an identifier may have, and in normalization form C
 abbrev pub is_short_and_composed : Characters → Bool
-is_short_and_composed word = not (nat_lt 255 (length (encode_utf8_all word))) && is_in_form Nfc word
+is_short_and_composed word = not (nat_lt MAX_IDENTIFIER (length (encode_utf8_all word))) && is_in_form Nfc word
 
 -- the place of a word in the list of those that are never identifiers
 unfoldable pub reserved : Text → Option ℕ
@@ -92,7 +93,7 @@ is_identifier (c ∷ text) = begins_identifier c && list_all continues_identifie
 abbrev pub before_zero : Text → Text
 before_zero bytes = take (prefix_len (λ byte. not (byte == 0)) bytes) bytes
 
--- a text that may be a name: of the form of an identifier, at most 255 bytes, in normalization form C, and no reserved word
+-- a text that may be a name: of the form of an identifier, no longer than one may be, in normalization form C, and no reserved word
 abbrev pub is_name : Text → Bool
 is_name text = is_identifier (chars text) && (is_none (reserved text) && is_short_and_composed (chars text))
 

@@ -9,6 +9,7 @@ pub mod Literals
 pub mod Munch
 pub mod Punctuators
 pub mod Search
+pub mod SkippedLines
 pub mod Tables
 pub mod Turns
 pub mod Usable

@@ -1,11 +1,11 @@
 -- What users of tokens lean on.
-use Rattle.std.specs.Prelude.{◌≡◌, ℕ, ◌<◌, ◌≤◌, Bool, true, ◌&&◌, List, [], ◌∷◌, length, chars, is_some, Ok, All}
+use Rattle.std.specs.Prelude.{◌≡◌, ◌<◌, ◌≤◌, true, ◌&&◌, List, [], ◌∷◌, length, is_some, Ok, All}
 use Rattle.std.specs.Str.{is_utf8}
 use Rattle.cxx_base.specs.Texts.{Text, has_text}
 use Rattle.cxx_base.specs.declared.place.Place.{Place}
 use Rattle.int_kinds.specs.Literal.{kind_of_literal}
 use Rattle.std.specs.Prelude.{◌⊎◌}
-use Rattle.cxx_tokens.specs.Characters.{Characters, characters_of}
+use Rattle.cxx_tokens.specs.Characters.{characters_of}
 use Rattle.cxx_tokens.specs.Cutting.{IsLexed}
 use Rattle.cxx_tokens.specs.Lex.{Lexed, before_zero, is_name, members}
 use Rattle.cxx_tokens.specs.Tables.{punctuators, words}

@@ -16,6 +16,7 @@ pub enum LexFault {
     L4(Place),
     /// An identifier is longer than 255 bytes, or not in normalization form C.
     L5(Place),
+    /// No memory was found for the tokens or for the names.
     Memory,
 }
 

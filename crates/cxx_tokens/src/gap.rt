@@ -45,6 +45,7 @@ pub enum Gap<'a> {
 }
 
 // The comment behind a slash, with the slash.
+#[inline(never)]
 fn comment_at(text: &str) -> Gap<'_>
     ensures length { (place : Place) → seen_gap place result ≡ spec.comment_at place (chars text.now) }
     ensures cut { IfPassed (IsCutBehindOne text.now) result }
@@ -140,6 +141,7 @@ fn is_skipped(line: &str) -> bool
 }
 
 // The line behind a `#`, with it, where the line is skipped.
+#[inline(never)]
 fn skipped_line(text: &str) -> Gap<'_>
     ensures length { (place : Place) → seen_gap place result ≡ Ok (spec.skipped_len (chars text.now)) }
     ensures cut { IfPassed (IsCutBehindOne text.now) result }
@@ -157,7 +159,7 @@ fn skipped_line(text: &str) -> Gap<'_>
 }
 
 /// The gap that begins at the front of a text, if one does. A line is skipped only from the first token of a line on.
-#[inline]
+#[inline(always)]
 pub fn gap_at(is_first: bool, text: &str) -> Gap<'_>
     ensures length { (place : Place) → seen_gap place result ≡ spec.gap_at place is_first (chars text.now) }
     ensures cut { IfPassed (λ cut. (0 < cut.length) × IsCut text.now cut) result }

@@ -79,6 +79,7 @@ fn prefix_len(base: Base) -> usize
 }
 
 // What follows a prefix, where that is a digit of the base.
+#[inline(always)]
 fn strip_prefix<'a>(prefix: &[u8], radix: u32, text: &'a str) -> Option<&'a str>
     requires { IsRadix radix }
     ensures some { is_some result ≡ literals.has_prefix prefix.now radix (chars text.now) }

@@ -16,20 +16,22 @@ ghost use Rattle.cxx_tokens.specs.Usable.{IsKnown, Rise};
 ghost use Rattle.cxx_tokens.specs.declared.token.Token.{Token};
 ghost use Rattle.cxx_tokens.specs.declared.token.TokenKind.TheVariants as kind;
 
-use crate::character::{begins_identifier, continues_identifier, is_space};
+use crate::character::{begins_identifier, continues_identifier, is_blank};
 use crate::escape::character_at;
 use crate::fault::LexFault;
 use crate::gap::{Gap, gap_at};
 use crate::integer::{Integer, integer_at};
 use crate::punctuator::punctuator_at;
 use crate::quoted::string_at;
+use crate::recent::Recent;
 use crate::run::{Class, past, run};
-use crate::text::{Cut, after, after_one, end_of, front, split_first, without_byte_order_mark};
+use crate::text::{Cut, after, end_of, front, split_first, without_byte_order_mark};
 use crate::token::{Token, TokenKind, Tokens};
 use crate::word::reserved;
 use containers::{Boxed, Items};
 use cxx_base::{Bytes, MAX_IDENTIFIER, Names, Place, Span};
 use int_kinds::literal_kind;
+use simdutf8::compat::from_utf8;
 use std::alloc::{AllocError, Global};
 use unicode_normalization::is_nfc;
 
@@ -48,7 +50,8 @@ struct Position {
 }
 
 // A word of the list, or an identifier, which is numbered.
-fn kind_of_word(names: &mut Names, text: &str) -> Result<TokenKind, LexFault>
+#[inline]
+fn kind_of_word(names: &mut Names, recent: &mut Recent, text: &str) -> Result<TokenKind, LexFault>
     requires room { length names.old < 2 ^ 24 }
     ensures kind { IfOk result (λ kind. kind ≡ spec.word_kind names.old text.now (spec.reserved text.now)) }
     ensures names { OnOk result (names.new ≡ spec.names_with_word names.old text.now (spec.reserved text.now)) }
@@ -58,11 +61,12 @@ fn kind_of_word(names: &mut Names, text: &str) -> Result<TokenKind, LexFault>
 {
     match reserved(text.as_bytes()) {
         Some(number) => Ok(TokenKind::Word(number)),
-        None => Ok(TokenKind::Identifier(names.number(text)?)),
+        None => Ok(TokenKind::Identifier(recent.number(names, text)?)),
     }
 }
 
 // The first character, and all behind it that continue an identifier.
+#[inline]
 fn word(text: &str) -> Cut<'_>
     ensures length { result.length ≡ spec.word_len (chars text.now) }
     ensures cut { IsCut text.now result }
@@ -84,6 +88,7 @@ fn word(text: &str) -> Cut<'_>
 
 // Whether a word of so many characters is short enough, and in normalization form C, as all ASCII is: that has a byte for each
 // character.
+#[inline]
 fn is_short_and_composed(alloc: Global, word: &str, count: usize) -> Result<bool, AllocError>
     requires { count ≡ length (chars word.now) }
     ensures { IfOk result (λ fit. fit ≡ spec.is_short_and_composed (chars word.now)) }
@@ -98,9 +103,11 @@ fn is_short_and_composed(alloc: Global, word: &str, count: usize) -> Result<bool
 }
 
 // The word at the front of a text.
+#[inline]
 fn word_at<'a>(
     alloc: Global,
     names: &mut Names,
+    recent: &mut Recent,
     place: Place,
     text: &'a str,
 ) -> Result<FoundToken<'a>, LexFault>
@@ -116,7 +123,7 @@ fn word_at<'a>(
     if !is_short_and_composed(alloc, spelled, cut.length)? {
         return Err(LexFault::L5(place));
     }
-    match kind_of_word(names, spelled) {
+    match kind_of_word(names, recent, spelled) {
         Ok(kind) => Ok(FoundToken { kind, cut }),
         Err(fault) => Err(fault),
     }
@@ -141,6 +148,7 @@ fn integer_kind(found: &Integer<'_>) -> Option<TokenKind>
 }
 
 // The integer literal at the front of a text that begins with a digit.
+#[inline(never)]
 fn integer_token_at(place: Place, text: &str) -> Result<FoundToken<'_>, LexFault>
     ensures found { (names : List Text) → GivesToken result names (spec.integer_token place names (chars text.now) (literals.integer_at (chars text.now))) }
     ensures cut { IfOk result (λ found. IsCut text.now found.cut) }
@@ -162,6 +170,7 @@ fn integer_token_at(place: Place, text: &str) -> Result<FoundToken<'_>, LexFault
 }
 
 // The character literal whose first quote stands before a text.
+#[inline(never)]
 fn character_token_at(place: Place, text: &str) -> Result<FoundToken<'_>, LexFault>
     ensures found { (names : List Text) → GivesToken result names (spec.character_token place names (literals.character_at (chars text.now))) }
     ensures cut { IfOk result (λ found. IsCutBehindOne text.now found.cut) }
@@ -269,6 +278,7 @@ fn text_token(alloc: Global, bytes: Bytes, cut: Cut<'_>) -> Result<FoundToken<'_
 }
 
 // The string literal whose first quote stands before a text.
+#[inline(never)]
 fn string_token_at<'a>(
     alloc: Global,
     names: &mut Names,
@@ -291,6 +301,7 @@ fn string_token_at<'a>(
 }
 
 // The punctuator at the front of a text.
+#[inline]
 fn punctuator_token_at(place: Place, text: &str) -> Result<FoundToken<'_>, LexFault>
     ensures found { (names : List Text) → GivesToken result names (spec.punctuator_token place names (punctuators.punctuator_at (chars text.now))) }
     ensures cut { IfOk result (λ found. (0 < found.cut.length) × IsCut text.now found.cut) }
@@ -305,9 +316,11 @@ fn punctuator_token_at(place: Place, text: &str) -> Result<FoundToken<'_>, LexFa
 }
 
 // The token at the front of a text.
+#[inline(always)]
 fn token_at<'a>(
     alloc: Global,
     names: &mut Names,
+    recent: &mut Recent,
     place: Place,
     text: &'a str,
 ) -> Result<FoundToken<'a>, LexFault>
@@ -321,7 +334,7 @@ fn token_at<'a>(
         None => Err(LexFault::L2(place)),
         Some((c, rest)) => {
             if begins_identifier(c) {
-                word_at(alloc, names, place, text)
+                word_at(alloc, names, recent, place, text)
             } else if c.is_ascii_digit() {
                 integer_token_at(place, text)
             } else if c == '\'' {
@@ -360,9 +373,11 @@ fn token_from(kind: TokenKind, place: Place, number: u32) -> Token
 }
 
 // Passes the gap or the token at the front of a text, and answers what follows it.
+#[inline(always)]
 fn turn<'a>(
     alloc: Global,
     names: &mut Names,
+    recent: &mut Recent,
     list: &mut Items<Token>,
     at: &mut Position,
     text: &'a str,
@@ -390,7 +405,7 @@ fn turn<'a>(
             at.place = after(at.place, text, gap.length);
             Ok(gap.rest)
         }
-        Gap::Absent => match token_at(alloc, names, at.place, text) {
+        Gap::Absent => match token_at(alloc, names, recent, at.place, text) {
             Err(fault) => Err(fault),
             Ok(found) => {
                 list.push(token_from(found.kind, at.place, list.len() as u32))?;
@@ -405,6 +420,7 @@ fn turn<'a>(
 }
 
 // Passes the white space at the front of a text, each character a gap, without the tries for other gaps and tokens.
+#[inline(always)]
 fn past_space<'a>(at: &mut Position, text: &'a str) -> &'a str
     requires line { at.old.place.line + length (chars text.now) < 2 ^ 32 }
     requires column { at.old.place.column + length (chars text.now) < 2 ^ 32 }
@@ -413,14 +429,21 @@ fn past_space<'a>(at: &mut Position, text: &'a str) -> &'a str
     ensures line { at.new.place.line + length (chars result.now) ≤ at.old.place.line + length (chars text.now) }
     ensures column { at.new.place.column + length (chars result.now) ≤ at.old.place.column + length (chars text.now) }
 {
+    let mut line = at.place.line;
+    let mut column = at.place.column;
     let mut rest = text;
     while let Some((c, behind)) = split_first(rest) {
-        if !is_space(c) {
+        if c == '\n' {
+            line += 1;
+            column = 1;
+        } else if is_blank(c) {
+            column += 1;
+        } else {
             break;
         }
-        at.place = after_one(at.place, c);
         rest = behind;
     }
+    at.place = Place { line, column };
     rest
 }
 
@@ -445,13 +468,14 @@ fn tokens_of(alloc: Global, names: &mut Names, text: &str) -> Result<Tokens, Lex
     ensures kept { Keeps names.old names.new }
 {
     let mut list = Items::new(alloc);
+    let mut recent = Recent::new();
     let mut at = Position {
         place: Place::START,
         last: 0,
     };
     let mut rest = text;
     while !rest.is_empty() {
-        match turn(alloc, names, &mut list, &mut at, rest) {
+        match turn(alloc, names, &mut recent, &mut list, &mut at, rest) {
             Ok(behind) => rest = past_space(&mut at, behind),
             Err(fault) => return Err(fault),
         }
@@ -483,7 +507,7 @@ fn scanned(alloc: Global, names: &mut Names, bytes: &[u8]) -> Result<Tokens, Lex
     ensures tokens { GivesTokens result names.new (spec.lex names.old bytes.now) }
     ensures kept { Keeps names.old names.new }
 {
-    match str::from_utf8(bytes) {
+    match from_utf8(bytes) {
         Ok(text) => tokens_of(alloc, names, without_byte_order_mark(text)),
         Err(fault) => Err(LexFault::L1(fault_place(bytes, fault.valid_up_to()))),
     }

@@ -12,6 +12,7 @@ mod lexing;
 pub mod mark;
 mod punctuator;
 mod quoted;
+mod recent;
 mod run;
 mod text;
 mod token;

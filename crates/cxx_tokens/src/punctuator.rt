@@ -1,15 +1,15 @@
 //! Punctuators ([lex.operators]).
 
-ghost use Rattle.std.specs.Prelude.{◌≡◌, ◌<◌, chars, length, map, take, true, is_some, IfSome, Some};
+ghost use Rattle.std.specs.Prelude.{◌≡◌, ◌≢◌, ◌<◌, ◌∷◌, chars, length, map, take, get_or, true, false, is_some, IfSome, Some};
 ghost use Rattle.cxx_base.specs.Texts.{Text};
 ghost use Rattle.cxx_tokens.specs.Cuts.{IsCut, seen_punctuator, seen_punctuators};
-ghost use Rattle.cxx_tokens.specs.Search.{combined, longest_among};
+ghost use Rattle.cxx_tokens.specs.Search.{IsOfTwo, combined, goes_on, longest_among};
 ghost use Rattle.cxx_tokens.specs.Punctuators as spec;
 ghost use Rattle.cxx_tokens.specs.Words.{AreBelow};
-ghost use Rattle.cxx_tokens.specs.declared.punctuator.TheConstants.{PUNCTUATORS, BY_FIRST};
+ghost use Rattle.cxx_tokens.specs.declared.punctuator.TheConstants.{PUNCTUATORS, BY_FIRST, ALONE, SHORTEST, WITH_EQUAL, DOUBLED};
 
-use crate::mark::LEFT_BRACKET;
-use crate::text::{Cut, first, first_is, strip};
+use crate::mark::{ARROW, LEFT_BRACKET};
+use crate::text::{Cut, first, first_is, split_first, strip};
 
 /// The punctuators, in the order in which they are numbered.
 pub const PUNCTUATORS: [&[u8]; 49] = [
@@ -151,6 +151,46 @@ const BY_FIRST: [&[u32]; 128] = [
     &[],
 ];
 
+// The number of the punctuator that is an ASCII character, where that begins no other one; else 49.
+const ALONE: [u8; 128] = [
+    49, 49, 49, 49, 49, 49, 49, 49, 49, 49, 49, 49, 49, 49, 49, 49, 49, 49, 49, 49, 49, 49, 49, 49,
+    49, 49, 49, 49, 49, 49, 49, 49, 49, 49, 49, 49, 49, 49, 49, 49, 6, 7, 49, 49, 11, 49, 12, 49,
+    49, 49, 49, 49, 49, 49, 49, 49, 49, 49, 49, 8, 49, 49, 49, 13, 49, 49, 49, 49, 49, 49, 49, 49,
+    49, 49, 49, 49, 49, 49, 49, 49, 49, 49, 49, 49, 49, 49, 49, 49, 49, 49, 49, 49, 49, 3, 49, 49,
+    49, 49, 49, 49, 49, 49, 49, 49, 49, 49, 49, 49, 49, 49, 49, 49, 49, 49, 49, 49, 49, 49, 49, 49,
+    49, 49, 49, 0, 49, 1, 24, 49,
+];
+
+// The number of the punctuator that is an ASCII character, where that begins others too, but no comment; else 49.
+const SHORTEST: [u8; 128] = [
+    49, 49, 49, 49, 49, 49, 49, 49, 49, 49, 49, 49, 49, 49, 49, 49, 49, 49, 49, 49, 49, 49, 49, 49,
+    49, 49, 49, 49, 49, 49, 49, 49, 49, 25, 49, 49, 49, 19, 22, 49, 49, 49, 17, 15, 49, 16, 49, 49,
+    49, 49, 49, 49, 49, 49, 49, 49, 49, 49, 9, 49, 27, 26, 28, 49, 49, 49, 49, 49, 49, 49, 49, 49,
+    49, 49, 49, 49, 49, 49, 49, 49, 49, 49, 49, 49, 49, 49, 49, 49, 49, 49, 49, 2, 49, 49, 20, 49,
+    49, 49, 49, 49, 49, 49, 49, 49, 49, 49, 49, 49, 49, 49, 49, 49, 49, 49, 49, 49, 49, 49, 49, 49,
+    49, 49, 49, 49, 23, 49, 49, 49,
+];
+
+// The number of the punctuator that is an ASCII character and `=`, else 49.
+const WITH_EQUAL: [u8; 128] = [
+    49, 49, 49, 49, 49, 49, 49, 49, 49, 49, 49, 49, 49, 49, 49, 49, 49, 49, 49, 49, 49, 49, 49, 49,
+    49, 49, 49, 49, 49, 49, 49, 49, 49, 32, 49, 49, 49, 43, 45, 49, 49, 49, 41, 39, 49, 40, 49, 42,
+    49, 49, 49, 49, 49, 49, 49, 49, 49, 49, 49, 49, 29, 31, 30, 49, 49, 49, 49, 49, 49, 49, 49, 49,
+    49, 49, 49, 49, 49, 49, 49, 49, 49, 49, 49, 49, 49, 49, 49, 49, 49, 49, 49, 49, 49, 49, 44, 49,
+    49, 49, 49, 49, 49, 49, 49, 49, 49, 49, 49, 49, 49, 49, 49, 49, 49, 49, 49, 49, 49, 49, 49, 49,
+    49, 49, 49, 49, 46, 49, 49, 49,
+];
+
+// The number of the punctuator that is an ASCII character twice, but for `==`; else 49.
+const DOUBLED: [u8; 128] = [
+    49, 49, 49, 49, 49, 49, 49, 49, 49, 49, 49, 49, 49, 49, 49, 49, 49, 49, 49, 49, 49, 49, 49, 49,
+    49, 49, 49, 49, 49, 49, 49, 49, 49, 49, 49, 49, 49, 49, 35, 49, 49, 49, 49, 37, 49, 38, 49, 49,
+    49, 49, 49, 49, 49, 49, 49, 49, 49, 49, 10, 49, 33, 49, 34, 49, 49, 49, 49, 49, 49, 49, 49, 49,
+    49, 49, 49, 49, 49, 49, 49, 49, 49, 49, 49, 49, 49, 49, 49, 49, 49, 49, 49, 49, 49, 49, 21, 49,
+    49, 49, 49, 49, 49, 49, 49, 49, 49, 49, 49, 49, 49, 49, 49, 49, 49, 49, 49, 49, 49, 49, 49, 49,
+    49, 49, 49, 49, 36, 49, 49, 49,
+];
+
 /// A punctuator, by its number, and what follows it.
 #[derive(Clone, Copy, Debug)]
 pub struct Punctuator<'a> {
@@ -234,14 +274,221 @@ fn bracket_before_scope(text: &str) -> Option<Punctuator<'_>>
     })
 }
 
-/// The punctuator at the front of a text.
+// The punctuator at the front of a text, by the search.
+#[inline(never)]
 #[tactic(auto, unfolding(crate::specs::Punctuators::punctuator_at))]
-pub fn punctuator_at(text: &str) -> Option<Punctuator<'_>>
+fn searched(text: &str) -> Option<Punctuator<'_>>
     ensures punctuator { seen_punctuators result ≡ spec.punctuator_at (chars text.now) }
     ensures cut { IfSome result (λ found. (0 < found.cut.length) × IsCut text.now found.cut) }
 {
     match bracket_before_scope(text) {
         Some(found) => Some(found),
         None => longest_by_first(&PUNCTUATORS, &BY_FIRST, text),
+    }
+}
+
+// Whether a punctuator has the character behind its first one.
+#[inline]
+fn goes_on(c: char) -> bool
+    ensures { result ≡ goes_on c }
+{
+    c == '='
+        || (c == '+'
+            || (c == '-'
+                || (c == '>'
+                    || (c == '<'
+                        || (c == '&' || (c == '|' || (c == '^' || (c == ':' || c == ']'))))))))
+}
+
+// The number in the table, or 49.
+#[inline]
+fn number_in(table: &[u8], c: char) -> u32
+    ensures { result ≡ get_or table.now c 49 }
+{
+    let at = c as usize;
+    if at < table.len() {
+        u32::from(table[at])
+    } else {
+        49
+    }
+}
+
+// The punctuator of this number that the first character of a text is, which begins no other one.
+#[inline]
+fn lone_mark<'a>(number: u32, c: char, text: &str, rest: &'a str) -> Punctuator<'a>
+    requires here { chars text.now ≡ c ∷ chars rest.now }
+    requires told { number ≡ get_or ALONE c 49 }
+    requires less { number < 49 }
+    ensures punctuator { Some (seen_punctuator result) ≡ spec.punctuator_at (chars text.now) }
+    ensures cut { (0 < result.cut.length) × IsCut text.now result.cut }
+{
+    let _text = text;
+    Punctuator {
+        number,
+        cut: Cut { length: 1, rest },
+    }
+}
+
+// The same of one that begins others too, where the next character goes on in none.
+#[inline]
+fn short_mark<'a>(
+    number: u32,
+    c: char,
+    next: char,
+    text: &str,
+    rest: &'a str,
+    more: &str,
+) -> Punctuator<'a>
+    requires here { chars text.now ≡ c ∷ chars rest.now }
+    requires behind_it { chars rest.now ≡ next ∷ chars more.now }
+    requires ends { goes_on next ≡ false }
+    requires told { number ≡ get_or SHORTEST c 49 }
+    requires less { number < 49 }
+    ensures punctuator { Some (seen_punctuator result) ≡ spec.punctuator_at (chars text.now) }
+    ensures cut { (0 < result.cut.length) × IsCut text.now result.cut }
+{
+    let _text = text;
+    let _more = more;
+    Punctuator {
+        number,
+        cut: Cut { length: 1, rest },
+    }
+}
+
+// A punctuator of one character, where that character or the one behind it tells that it is no longer one.
+#[inline(always)]
+fn told_by_one<'a>(alone: &[u8], shortest: &[u8], text: &'a str) -> Option<Punctuator<'a>>
+    requires alone { alone.now ≡ ALONE }
+    requires shortest { shortest.now ≡ SHORTEST }
+    ensures punctuator { IfSome result (λ found. Some (seen_punctuator found) ≡ spec.punctuator_at (chars text.now)) }
+    ensures cut { IfSome result (λ found. (0 < found.cut.length) × IsCut text.now found.cut) }
+{
+    let (c, rest) = split_first(text)?;
+    let lone = number_in(alone, c);
+    if lone < 49 {
+        return Some(lone_mark(lone, c, text, rest));
+    }
+    let (next, more) = split_first(rest)?;
+    if goes_on(next) {
+        return None;
+    }
+    let short = number_in(shortest, c);
+    if short < 49 {
+        Some(short_mark(short, c, next, text, rest, more))
+    } else {
+        None
+    }
+}
+
+// The number of the punctuator that is this character and `=`, or 49.
+#[inline]
+fn number_with_equal(with_equal: &[u8], c: char) -> u32
+    requires { with_equal.now ≡ WITH_EQUAL }
+    ensures { result < 49 → IsOfTwo c 61 result }
+{
+    number_in(with_equal, c)
+}
+
+// The number of the punctuator that is this character twice, or 49.
+#[inline]
+fn number_doubled(doubled: &[u8], c: char) -> u32
+    requires { doubled.now ≡ DOUBLED }
+    ensures { result < 49 → IsOfTwo c c result }
+{
+    number_in(doubled, c)
+}
+
+// The number of the punctuator that is `-` and this character, where it is `->`, or 49.
+#[inline]
+fn number_of_arrow(next: char) -> u32
+    ensures { result < 49 → IsOfTwo 45 next result }
+{
+    if next == '>' { ARROW } else { 49 }
+}
+
+// The number of the punctuator that is these two characters, or 49 where it is left to the search.
+#[inline]
+fn number_of_two(with_equal: &[u8], doubled: &[u8], c: char, next: char) -> u32
+    requires with_equal { with_equal.now ≡ WITH_EQUAL }
+    requires doubled { doubled.now ≡ DOUBLED }
+    ensures { result < 49 → IsOfTwo c next result }
+{
+    if next == '=' {
+        number_with_equal(with_equal, c)
+    } else if next == c {
+        number_doubled(doubled, c)
+    } else if c == '-' {
+        number_of_arrow(next)
+    } else {
+        49
+    }
+}
+
+// The punctuator of this number that the first two characters of a text are, where no `=` stands behind them.
+#[inline]
+fn two_mark<'a>(
+    number: u32,
+    c: char,
+    next: char,
+    third: char,
+    text: &str,
+    rest: &str,
+    behind: &'a str,
+    more: &str,
+) -> Punctuator<'a>
+    requires here { chars text.now ≡ c ∷ chars rest.now }
+    requires behind_it { chars rest.now ≡ next ∷ chars behind.now }
+    requires last { chars behind.now ≡ third ∷ chars more.now }
+    requires ends { third ≢ 61 }
+    requires told { number < 49 → IsOfTwo c next number }
+    requires less { number < 49 }
+    ensures punctuator { Some (seen_punctuator result) ≡ spec.punctuator_at (chars text.now) }
+    ensures cut { (0 < result.cut.length) × IsCut text.now result.cut }
+{
+    let _text = text;
+    let _rest = rest;
+    let _more = more;
+    Punctuator {
+        number,
+        cut: Cut {
+            length: 2,
+            rest: behind,
+        },
+    }
+}
+
+// A punctuator of two characters, where what follows them is no `=`, so that it is no longer one.
+#[inline(always)]
+fn told_by_two<'a>(with_equal: &[u8], doubled: &[u8], text: &'a str) -> Option<Punctuator<'a>>
+    requires with_equal { with_equal.now ≡ WITH_EQUAL }
+    requires doubled { doubled.now ≡ DOUBLED }
+    ensures punctuator { IfSome result (λ found. Some (seen_punctuator found) ≡ spec.punctuator_at (chars text.now)) }
+    ensures cut { IfSome result (λ found. (0 < found.cut.length) × IsCut text.now found.cut) }
+{
+    let (c, rest) = split_first(text)?;
+    let (next, behind) = split_first(rest)?;
+    let (third, more) = split_first(behind)?;
+    let number = number_of_two(with_equal, doubled, c, next);
+    if number < 49 {
+        if third == '=' {
+            return None;
+        }
+        return Some(two_mark(number, c, next, third, text, rest, behind, more));
+    }
+    None
+}
+
+/// The punctuator at the front of a text.
+#[inline(always)]
+pub fn punctuator_at(text: &str) -> Option<Punctuator<'_>>
+    ensures punctuator { seen_punctuators result ≡ spec.punctuator_at (chars text.now) }
+    ensures cut { IfSome result (λ found. (0 < found.cut.length) × IsCut text.now found.cut) }
+{
+    if let Some(found) = told_by_one(&ALONE, &SHORTEST, text) {
+        return Some(found);
+    }
+    match told_by_two(&WITH_EQUAL, &DOUBLED, text) {
+        Some(found) => Some(found),
+        None => searched(text),
     }
 }

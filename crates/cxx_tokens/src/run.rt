@@ -81,6 +81,7 @@ fn run_of(class: Class, bytes: &[u8]) -> usize
     end
 }
 
+#[inline]
 fn continuing_run(bytes: &[u8]) -> usize
     ensures { result ≡ prefix_len (is_ascii_in Class.Continuing) bytes.now }
 {

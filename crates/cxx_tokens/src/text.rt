@@ -99,6 +99,7 @@ pub fn behind_ascii(text: &str, count: usize) -> &str
 }
 
 /// The first characters of a text, which stand before its rest.
+#[inline]
 pub fn front<'a>(text: &'a str, count: usize, rest: &str) -> &'a str
     requires { chars rest.now ≡ drop count (chars text.now) }
     ensures characters { chars result.now ≡ take count (chars text.now) }

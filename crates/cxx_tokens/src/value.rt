@@ -8,6 +8,7 @@ ghost use Rattle.cxx_tokens.specs.Cuts.{IsRadix};
 use crate::text::split_first;
 
 // The number with one more digit, or 2^64 where that is less. What is no digit means nothing.
+#[inline]
 fn with_digit(radix: u32, value: u128, c: char) -> u128
     requires radix { IsRadix radix }
     requires value { value ≤ 2 ^ 64 }
@@ -21,6 +22,7 @@ fn with_digit(radix: u32, value: u128, c: char) -> u128
 }
 
 /// The number that the digits of the first characters mean, or 2^64 where that is less.
+#[inline]
 pub fn value_in(radix: u32, text: &str, count: usize) -> u128
     requires radix { IsRadix radix }
     requires within { count ≤ length (chars text.now) }

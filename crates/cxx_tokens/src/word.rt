@@ -1,10 +1,9 @@
 //! Words that are never identifiers ([lex.key], [lex.operators]).
 
-ghost use Rattle.std.specs.Prelude.{◌≡◌, length, map, bytes_eq};
+ghost use Rattle.std.specs.Prelude.{◌≡◌, ◌<◌, ◌+◌, ◌*◌, ◌%◌, length, map};
 ghost use Rattle.cxx_tokens.specs.Lex.{reserved};
 ghost use Rattle.cxx_tokens.specs.declared.word.TheConstants.{WORDS, BY_KEY};
 ghost use Rattle.cxx_tokens.specs.Words as spec;
-ghost use Rattle.cxx_tokens.specs.Words.{AreBelow, first_spelled};
 
 /// The keywords, and then the alternative spellings of operators.
 pub const WORDS: [&[u8]; 93] = [
@@ -103,131 +102,87 @@ pub const WORDS: [&[u8]; 93] = [
     b"xor_eq",
 ];
 
-// The places of the words of each key, from 0 on.
-const BY_KEY: [&[u32]; 64] = [
-    &[37, 48],
-    &[],
-    &[50],
-    &[42],
-    &[],
-    &[90],
-    &[71],
-    &[],
-    &[46, 77, 87],
-    &[57, 80],
-    &[68],
-    &[74, 76],
-    &[29],
-    &[81],
-    &[70],
-    &[15],
-    &[],
-    &[],
-    &[54, 91],
-    &[10, 11, 19, 21, 23],
-    &[24],
-    &[32, 83],
-    &[84],
-    &[],
-    &[26, 28],
-    &[3, 33, 34],
-    &[4, 38],
-    &[6, 8],
-    &[67],
-    &[30, 31, 41],
-    &[47],
-    &[39, 49],
-    &[27],
-    &[],
-    &[53, 55, 88],
-    &[],
-    &[43, 52, 65, 73],
-    &[20, 40, 75],
-    &[56, 79],
-    &[58, 59, 60, 63, 64],
-    &[72],
-    &[],
-    &[],
-    &[89],
-    &[66, 69, 92],
-    &[],
-    &[78],
-    &[],
-    &[],
-    &[16, 17, 18, 22],
-    &[],
-    &[0, 1],
-    &[],
-    &[9, 13],
-    &[25],
-    &[],
-    &[5, 85],
-    &[7, 12, 14, 61, 86],
-    &[],
-    &[2, 82],
-    &[35, 36, 45],
-    &[62],
-    &[51],
-    &[44],
+// The place of the one word of each key, or 93 where there is none.
+const BY_KEY: [u8; 512] = [
+    93, 93, 93, 93, 93, 93, 68, 93, 54, 93, 63, 93, 59, 93, 93, 93, 93, 93, 71, 93, 93, 93, 20, 93,
+    75, 93, 93, 93, 93, 93, 70, 93, 93, 1, 93, 93, 93, 93, 21, 78, 23, 93, 93, 67, 93, 93, 93, 93,
+    93, 93, 93, 93, 93, 41, 93, 93, 93, 19, 93, 93, 93, 93, 81, 93, 93, 93, 93, 93, 93, 93, 93, 93,
+    93, 93, 93, 5, 93, 52, 93, 83, 93, 93, 93, 93, 93, 93, 93, 93, 90, 93, 93, 93, 88, 93, 76, 93,
+    35, 93, 82, 93, 93, 93, 92, 93, 93, 93, 93, 93, 93, 93, 93, 93, 93, 93, 93, 93, 93, 93, 93, 93,
+    93, 93, 8, 93, 93, 65, 93, 93, 93, 93, 93, 58, 93, 93, 34, 93, 93, 93, 93, 93, 93, 93, 93, 93,
+    12, 93, 93, 22, 93, 93, 93, 93, 15, 93, 49, 93, 93, 93, 93, 73, 93, 93, 93, 93, 93, 43, 93, 93,
+    93, 93, 93, 93, 25, 93, 93, 93, 93, 93, 93, 93, 93, 93, 93, 61, 93, 93, 93, 93, 93, 93, 93, 80,
+    93, 93, 93, 93, 93, 93, 93, 93, 93, 93, 93, 93, 93, 13, 93, 6, 93, 30, 93, 93, 93, 74, 93, 93,
+    60, 93, 93, 93, 93, 47, 93, 93, 93, 93, 93, 93, 93, 86, 93, 29, 93, 93, 93, 93, 93, 93, 93, 93,
+    93, 62, 93, 45, 93, 24, 93, 93, 93, 93, 93, 93, 93, 93, 0, 93, 93, 4, 69, 93, 93, 93, 93, 79,
+    93, 93, 93, 93, 93, 93, 93, 93, 93, 93, 93, 93, 93, 93, 93, 93, 7, 46, 93, 93, 93, 93, 50, 93,
+    93, 93, 93, 93, 66, 93, 93, 93, 93, 93, 93, 93, 27, 64, 93, 93, 93, 93, 93, 93, 93, 93, 55, 93,
+    93, 93, 32, 93, 93, 93, 93, 93, 93, 93, 93, 93, 93, 93, 93, 93, 93, 93, 93, 93, 93, 93, 93, 48,
+    2, 93, 93, 93, 93, 93, 93, 93, 93, 93, 93, 93, 93, 93, 93, 93, 93, 93, 93, 93, 93, 93, 37, 93,
+    93, 93, 93, 93, 93, 93, 93, 93, 16, 93, 93, 93, 93, 93, 93, 93, 91, 77, 42, 31, 93, 93, 14, 93,
+    10, 93, 93, 93, 93, 93, 93, 93, 3, 93, 93, 93, 93, 93, 39, 93, 87, 93, 36, 93, 93, 84, 33, 93,
+    93, 93, 93, 93, 93, 89, 93, 57, 93, 93, 11, 56, 93, 93, 93, 93, 93, 93, 93, 93, 93, 93, 93, 93,
+    93, 93, 93, 93, 93, 93, 44, 93, 93, 28, 93, 93, 93, 93, 93, 93, 93, 85, 93, 93, 93, 93, 93, 93,
+    93, 93, 93, 93, 9, 93, 93, 53, 93, 93, 93, 93, 93, 93, 17, 93, 93, 93, 93, 93, 93, 38, 93, 93,
+    93, 93, 93, 93, 93, 93, 93, 93, 93, 93, 93, 72, 26, 93, 93, 93, 93, 93, 93, 93, 93, 93, 51, 93,
+    18, 93, 93, 93, 93, 93, 93, 40,
 ];
 
 /// The number of a word: its place in the list.
+#[inline]
 pub fn reserved(text: &[u8]) -> Option<u32>
     ensures { result ≡ reserved text.now }
 {
     place_by_key(&WORDS, &BY_KEY, text)
 }
 
-// A number below 64 that leaves few words to try: it mixes the first byte and the length.
 #[inline]
-fn key(text: &[u8]) -> usize
-    ensures { result ≡ spec.key text.now }
+fn mixed(first: u8, middle: u8, last: u8, count: usize) -> usize
+    ensures { result ≡ (first + 17 * (middle + last) + 5 * (count % 64)) % 512 }
+{
+    (first as usize + 17 * (middle as usize + last as usize) + 5 * (count % 64)) % 512
+}
+
+/// A number below 512 that tells the words apart: it mixes the first, the middle and the last byte and the length.
+#[inline]
+pub fn key(text: &[u8]) -> usize
+    ensures key { result ≡ spec.key text.now }
+    ensures small { result < 512 }
 {
     match text {
-        [first, ..] => (*first as usize + 30 * (text.len() % 64)) % 64,
+        [first, ..] => mixed(
+            *first,
+            text[text.len() / 2],
+            text[text.len() - 1],
+            text.len(),
+        ),
         [] => 0,
     }
 }
 
-// Tries only the words that have the key of the text.
-fn place_by_key(words: &[&[u8]], places: &[&[u32]], text: &[u8]) -> Option<u32>
+// Tries only the word that has the key of the text.
+#[inline]
+fn place_by_key(words: &[&[u8]], places: &[u8], text: &[u8]) -> Option<u32>
     requires words { map (λ word. word.now) words.now ≡ map (λ word. word.now) WORDS }
-    requires places { map (λ some. some.now) places.now ≡ map (λ some. some.now) BY_KEY }
+    requires places { places.now ≡ BY_KEY }
     ensures { result ≡ reserved text.now }
 {
     let key = key(text);
     if key < places.len() {
-        first_of(words, places[key], text)
+        word_at(words, u32::from(places[key]), text)
     } else {
         None
     }
 }
 
-// The first of the numbered words that is the text.
-fn first_of(words: &[&[u8]], mut numbers: &[u32], text: &[u8]) -> Option<u32>
-    requires { AreBelow (length words.now) numbers.now }
-    ensures { result ≡ first_spelled words.now numbers.entry.now text.now }
-{
-    while let [number, rest @ ..] = numbers {
-        if is_word(words[*number as usize], text) {
-            return Some(*number);
-        }
-        numbers = rest;
-    }
-    None
-}
-
-// Whether a text is the word. The first bytes tell most apart, so the others are read only behind equal ones.
+// The place of a word, where the text is that word.
 #[inline]
-fn is_word(word: &[u8], text: &[u8]) -> bool
-    ensures { result ≡ bytes_eq word.now text.now }
+fn word_at(words: &[&[u8]], place: u32, text: &[u8]) -> Option<u32>
+    ensures { result ≡ spec.place_if words.now place text.now }
 {
-    if let [first, ..] = word {
-        if let [other, ..] = text {
-            if *first != *other {
-                return false;
-            }
-        }
+    if (place as usize) < words.len() && words[place as usize] == text {
+        Some(place)
+    } else {
+        None
     }
-    word == text
 }

@@ -1,3 +1,2 @@
 pub mod MoreSpans
 pub mod Spans
-pub mod Stands

@@ -1,6 +1,6 @@
 -- The spans of statements and declarations.
 use Rattle.cxx_base.specs.declared.place.Span.{Span}
-use Rattle.cxx_tree.specs.Spans.{span_of, span_of_args, span_of_braced}
+use Rattle.cxx_tree.specs.Spans.{span_of, span_of_args, span_of_braced, span_of_splice}
 use Rattle.cxx_tree.specs.declared.stmt.Stmt as stmt
 use Rattle.cxx_tree.specs.declared.stmt.Stmt.{Stmt, out-Stmt}
 use Rattle.cxx_tree.specs.declared.stmt.BodyTree as body
@@ -9,6 +9,8 @@ use Rattle.cxx_tree.specs.declared.stmt.AssignTree.{AssignTree}
 use Rattle.cxx_tree.specs.declared.stmt.AssignTree.TheVariants as assign-of
 use Rattle.cxx_tree.specs.declared.stmt.InitTree.{InitTree}
 use Rattle.cxx_tree.specs.declared.stmt.InitTree.TheVariants as init-of
+use Rattle.cxx_tree.specs.declared.decl.BasedTree.{BasedTree}
+use Rattle.cxx_tree.specs.declared.decl.BasedTree.TheVariants as based-of
 use Rattle.cxx_tree.specs.declared.decl.ClassTree as class
 use Rattle.cxx_tree.specs.declared.decl.ClassTree.{ClassTree}
 use Rattle.cxx_tree.specs.declared.decl.Member as member
@@ -37,6 +39,11 @@ span_of_value (init-of.Braced x) = span_of_braced x
 abbrev pub span_of_class : ClassTree → Span
 span_of_class (class.Declared s _ _) = s
 span_of_class (class.Defined' s _ _ _ _ _) = s
+
+abbrev pub span_of_based : BasedTree → Span
+span_of_based (based-of.Name n) = n.span
+span_of_based (based-of.Splice x) = span_of_splice x
+span_of_based (based-of.Typename s _) = s
 
 abbrev pub span_of_stmt : Stmt → Span
 span_of_stmt (stmt.Body x) = span_of_body x

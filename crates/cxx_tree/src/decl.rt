@@ -338,7 +338,7 @@ pub enum BasedTree {
     Name(NameTree),
     Splice(SpliceTree),
     /// `typename` and a splice.
-    Typename(SpliceTree),
+    Typename(Span, SpliceTree),
 }
 
 impl Drop for BasedTree {
@@ -346,7 +346,7 @@ impl Drop for BasedTree {
         match self {
             BasedTree::Name(_) => {}
             BasedTree::Splice(_) => {}
-            BasedTree::Typename(_) => {}
+            BasedTree::Typename(_, _) => {}
         }
     }
 }

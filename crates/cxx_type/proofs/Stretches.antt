@@ -9,10 +9,13 @@ use Rattle.std.specs.Arc.{arc_value}
 use Rattle.cxx_type.specs.declared.runs.Run.{Run, Run', out-Run, None', Some'}
 use Rattle.cxx_type.specs.Layers.{Apart, Begins, BeginsWith, IsOutermost, runs_held, runs_if_any, runs_of, under_of, wide}
 
--- ---- one layer more or less
+-- ---- layers more or less
 
-pub longer : (l : Layer) (n : ℕ) (rest : List (Layer × ℕ)) → wide ((l, n + 1) ∷ rest) ≡ l ∷ wide ((l, n) ∷ rest)
-longer l n rest = let e : n + 1 ≡ suc n = omega arith in rw e refl
+pub longer : (l : Layer) (n m : ℕ) (rest : List (Layer × ℕ)) → wide ((l, n + m) ∷ rest) ≡ replicate m l ++ wide ((l, n) ∷ rest)
+longer l n zero rest = let e : n + 0 ≡ n = omega arith in ap (λ k. replicate k l ++ wide rest) e
+longer l n (suc m) rest =
+    let e : n + suc m ≡ suc (n + m) = omega arith in
+    ap (λ k. replicate k l ++ wide rest) e ∙ ap (λ (ls : List Layer). l ∷ ls) (longer l n m rest)
 
 pub shorter : (l : Layer) (n : ℕ) (rest : List (Layer × ℕ)) → 0 < n → drop 1 (wide ((l, n) ∷ rest)) ≡ wide ((l, n - 1) ∷ rest)
 shorter l zero rest h = absurd (omega (arith, h))
@@ -20,6 +23,10 @@ shorter l (suc n) rest h = let e : suc n - 1 ≡ n = omega arith in rw e refl
 
 pub no_longer_than_all : (l : Layer) (n : ℕ) (rest : List (Layer × ℕ)) → n ≤ length (wide ((l, n) ∷ rest))
 no_longer_than_all l n rest = omega (arith, length-append (replicate n l) (wide rest), length-replicate n l)
+
+-- how many there are with a run more
+pub length_of_run : (n : ℕ) (l : Layer) (layers : List Layer) → length (replicate n l ++ layers) ≡ n + length layers
+length_of_run n l layers = omega (arith, length-append (replicate n l) layers, length-replicate n l)
 
 -- ---- the outermost run
 
@@ -79,23 +86,27 @@ pub count_within : (r : Run) → (out-Run r).count ≤ length (wide (runs_of r))
 unfolding out-Run denote.Hole.Carrier.out
 count_within (Run' l n u) = no_longer_than_all l n (runs_held u)
 
-pub longer_layers : (r over : Run) (layer : Layer) → (out-Run r).layer ≡ layer
-    → runs_of over ≡ ((out-Run r).layer, (out-Run r).count + 1) ∷ under_of (runs_of r) → wide (runs_of over) ≡ layer ∷ wide (runs_of r)
+pub longer_layers : (r over : Run) (layer : Layer) (m : ℕ) → (out-Run r).layer ≡ layer
+    → runs_of over ≡ ((out-Run r).layer, (out-Run r).count + m) ∷ under_of (runs_of r) → wide (runs_of over) ≡ replicate m layer ++ wide (runs_of r)
 unfolding out-Run denote.Hole.Carrier.out
-longer_layers (Run' l n u) over layer same e = ap wide e ∙ longer l n (runs_held u) ∙ ap (λ k. k ∷ wide ((l, n) ∷ runs_held u)) same
+longer_layers (Run' l n u) over layer m same e =
+    ap wide e ∙ longer l n m (runs_held u) ∙ ap (λ k. replicate m k ++ wide ((l, n) ∷ runs_held u)) same
 
-pub longer_apart : (r over : Run) → Apart (runs_of r)
-    → runs_of over ≡ ((out-Run r).layer, (out-Run r).count + 1) ∷ under_of (runs_of r) → Apart (runs_of over)
+pub longer_apart : (r over : Run) (m : ℕ) → Apart (runs_of r)
+    → runs_of over ≡ ((out-Run r).layer, (out-Run r).count + m) ∷ under_of (runs_of r) → Apart (runs_of over)
 unfolding out-Run denote.Hole.Carrier.out
-longer_apart (Run' l n u) over apart e = subst Apart (sym e) ((let more : 0 < n + 1 = omega arith in more), apart.1, apart.2)
+longer_apart (Run' l n u) over m apart e =
+    let some : 0 < n = apart.0 in
+    subst Apart (sym e) ((let more : 0 < n + m = omega (arith, some) in more), apart.1, apart.2)
 
-pub another_layers : (r over : Run) (layer : Layer) → runs_of over ≡ (layer, 1) ∷ runs_of r → wide (runs_of over) ≡ layer ∷ wide (runs_of r)
-another_layers r over layer e = ap wide e
+pub another_layers : (r over : Run) (layer : Layer) (m : ℕ) → runs_of over ≡ (layer, m) ∷ runs_of r
+    → wide (runs_of over) ≡ replicate m layer ++ wide (runs_of r)
+another_layers r over layer m e = ap wide e
 
-pub another_apart : (r over : Run) (layer : Layer) → ((out-Run r).layer ≡ layer → ⊥) → Apart (runs_of r)
-    → runs_of over ≡ (layer, 1) ∷ runs_of r → Apart (runs_of over)
+pub another_apart : (r over : Run) (layer : Layer) (m : ℕ) → 0 < m → ((out-Run r).layer ≡ layer → ⊥) → Apart (runs_of r)
+    → runs_of over ≡ (layer, m) ∷ runs_of r → Apart (runs_of over)
 unfolding out-Run denote.Hole.Carrier.out
-another_apart (Run' l n u) over layer other apart e = subst Apart (sym e) ((let one : 0 < 1 = omega arith in one), other, apart)
+another_apart (Run' l n u) over layer m some other apart e = subst Apart (sym e) (some, other, apart)
 
 pub shorter_layers : (r less : Run) → 1 < (out-Run r).count
     → runs_of less ≡ ((out-Run r).layer, (out-Run r).count - 1) ∷ under_of (runs_of r) → wide (runs_of less) ≡ drop 1 (wide (runs_of r))
@@ -117,6 +128,49 @@ below_layers (Run' l (suc (suc n)) u) below only apart e = absurd (only (omega a
 pub below_apart : (r : Run) (below : Option Run) → Apart (runs_of r) → runs_if_any below ≡ under_of (runs_of r) → Apart (runs_if_any below)
 unfolding out-Run denote.Hole.Carrier.out
 below_apart (Run' l n u) below apart e = subst Apart (sym e) apart.2
+
+pub under_layers : (r : Run) (below : Option Run) → runs_if_any below ≡ under_of (runs_of r)
+    → wide (runs_if_any below) ≡ drop (out-Run r).count (wide (runs_of r))
+unfolding out-Run denote.Hole.Carrier.out
+under_layers (Run' l n u) below e = ap wide e ∙ sym (drop_at (replicate n l) (wide (runs_held u)) n (length-replicate n l))
+
+pub under_len : (r : Run) (below : Option Run) → runs_if_any below ≡ under_of (runs_of r)
+    → length (wide (runs_if_any below)) + (out-Run r).count ≡ length (wide (runs_of r))
+unfolding out-Run denote.Hole.Carrier.out
+under_len (Run' l n u) below e =
+    let same = ap (λ runs. length (wide runs)) e in
+    let all = length_of_run n l (wide (runs_held u)) in
+    omega (arith, same, all)
+
+-- ---- there is one outermost run
+
+pub no_outermost : (l : Layer) (n : ℕ) (layers : List Layer) → layers ≡ [] → IsOutermost l n layers → ⊥
+no_outermost l zero layers e is = omega (arith, is.0)
+no_outermost l (suc n) layers e is = cc (sym e ∙ is.1)
+
+one_run : (l k : Layer) (n m : ℕ) (layers : List Layer) → IsOutermost l n layers → IsOutermost k m layers → n ≡ m
+one_run l k zero m layers of_n of_m = absurd (omega (arith, of_n.0))
+one_run l k (suc n) zero layers of_n of_m = absurd (omega (arith, of_m.0))
+one_run l k (suc n) (suc m) layers of_n of_m =
+    let both : l ∷ (replicate n l ++ drop (suc n) layers) ≡ k ∷ (replicate m k ++ drop (suc m) layers) = sym of_n.1 ∙ of_m.1 in
+    same l k n m (drop (suc n) layers) (drop (suc m) layers) (cc both) of_n.2 of_m.2 (ap (drop 1) both)
+  where
+    same : (l k : Layer) (n m : ℕ) (u v : List Layer) → l ≡ k → (Begins l u → ⊥) → (Begins k v → ⊥)
+        → replicate n l ++ u ≡ replicate m k ++ v → suc n ≡ suc m
+    same l k n m u v e not_u not_v both =
+        let P : Layer → Type 0 = λ k. (Begins k v → ⊥) → replicate n l ++ u ≡ replicate m k ++ v → suc n ≡ suc m in
+        let here : P l = λ not_v both. ap suc (counts l n m u v not_u not_v both).0 in
+        subst P e here not_v both
+
+pub under_run_is : (r : Run) (layers below : List Layer) → Apart (runs_of r) → wide (runs_of r) ≡ layers
+    → below ≡ drop (out-Run r).count (wide (runs_of r)) → (l : Layer) (n : ℕ) → IsOutermost l n layers → below ≡ drop n layers
+under_run_is r layers below apart is e l n of_n =
+    let here : IsOutermost (out-Run r).layer (out-Run r).count layers = subst (IsOutermost (out-Run r).layer (out-Run r).count) is (outermost_is r apart) in
+    e ∙ ap (drop (out-Run r).count) is ∙ ap (λ k. drop k layers) (one_run (out-Run r).layer l (out-Run r).count n layers here of_n)
+
+pub nothing_under : (n : ℕ) (layers below : List Layer) → below ≡ drop n layers → layers ≡ [] → below ≡ []
+nothing_under zero layers below e none = e ∙ none
+nothing_under (suc n) layers below e none = e ∙ ap (drop (suc n)) none
 
 -- ---- runs that are compared
 
@@ -146,5 +200,7 @@ same_layers x y m n of_m of_n of_x of_y =
 pub ruleset over_steps = (longer_layers, longer_apart, another_layers, another_apart, count_within)
 
 pub ruleset less_steps = (shorter_layers, shorter_apart, below_layers, below_apart)
+
+pub ruleset under_steps = (under_layers, under_len, below_apart)
 
 pub ruleset first_steps = (first_is, outermost_is)

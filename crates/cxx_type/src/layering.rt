@@ -1,7 +1,8 @@
 //! The layers of a type.
 
-ghost use Rattle.std.specs.Prelude.{◌≡◌, [], ◌∷◌, drop, length, slice_get, IsTrue, ◌↔◌, IfOk, MatchOption};
+ghost use Rattle.std.specs.Prelude.{◌≡◌, ℕ, [], ◌∷◌, ◌++◌, drop, length, replicate, slice_get, IsTrue, ◌↔◌, IfOk, MatchOption};
 ghost use Rattle.cxx_type.specs.Layers.{IsOutermost};
+ghost use Rattle.cxx_type.specs.declared.runs.Layer.{Layer};
 
 use crate::runs::{Layer, Run, put_over, runs_same};
 use cxx_base::Memory;
@@ -98,13 +99,24 @@ impl Layers {
     pub fn over(self, alloc: Global, layer: Layer) -> Result<Layers, Memory>
         ensures { IfOk result (λ over. over ≡ layer ∷ self) }
     {
-        if self.len == u64::MAX {
+        self.over_run(alloc, layer, 1)
+    }
+
+    /// So many equal layers over them, at the cost of one. There are fewer than 2^64.
+    #[tactic(auto, using(crate::proofs::Stretches::length_of_run))]
+    pub fn over_run(self, alloc: Global, layer: Layer, n: u64) -> Result<Layers, Memory>
+        ensures { IfOk result (λ over. over ≡ replicate n layer ++ self) }
+    {
+        if n == 0 {
+            return Ok(self);
+        }
+        if n > u64::MAX - self.len {
             return Err(Memory);
         }
         let Layers { len, outermost } = self;
         Ok(Layers {
-            len: len + 1,
-            outermost: Some(put_over(alloc, layer, outermost)?),
+            len: len + n,
+            outermost: Some(put_over(alloc, layer, n, outermost)?),
         })
     }
 
@@ -118,6 +130,25 @@ impl Layers {
                 len: len - 1,
                 outermost: run.less()?,
             }),
+            None => Ok(Layers::none()),
+        }
+    }
+
+    /// All but the outermost run of equal layers, at the cost of one. Of no layer there is none.
+    pub fn under_run(self) -> Result<Layers, Memory>
+        ensures run { IfOk result (λ under. (layer : Layer) (n : ℕ) → IsOutermost layer n self → under ≡ drop n self) }
+        ensures none { IfOk result (λ under. self ≡ [] → under ≡ []) }
+    {
+        let Layers { len, outermost } = self;
+        match outermost {
+            Some(run) => {
+                let count = run.count;
+                let below = run.without()?;
+                Ok(Layers {
+                    len: len - count,
+                    outermost: below,
+                })
+            }
             None => Ok(Layers::none()),
         }
     }

@@ -1,6 +1,6 @@
 //! Layers, and runs of equal ones.
 
-ghost use Rattle.std.specs.Prelude.{◌≡◌, ◌+◌, ◌-◌, ◌<◌, ◌^◌, ◌∷◌, drop, length, IsTrue, ◌↔◌, IfOk};
+ghost use Rattle.std.specs.Prelude.{◌≡◌, ◌+◌, ◌-◌, ◌<◌, ◌^◌, ◌∷◌, ◌++◌, drop, length, replicate, IsTrue, ◌↔◌, IfOk};
 ghost use Rattle.cxx_type.specs.declared.runs.Run.{out-Run};
 ghost use Rattle.cxx_type.specs.Layers.{Apart, runs_if_any, runs_of, under_of, wide};
 
@@ -60,20 +60,20 @@ impl Run {
         })
     }
 
-    // A run of one layer over another run.
-    fn another(alloc: Global, layer: Layer, run: Run) -> Result<Run, Memory>
-        ensures { IfOk result (λ over. runs_of over ≡ (layer, 1) ∷ runs_of run) }
+    // A run of so many layers over another run.
+    fn another(alloc: Global, layer: Layer, n: u64, run: Run) -> Result<Run, Memory>
+        ensures { IfOk result (λ over. runs_of over ≡ (layer, n) ∷ runs_of run) }
     {
         Ok(Run {
             layer,
-            count: 1,
+            count: n,
             under: Some(Arc::new(alloc, run)?),
         })
     }
 
-    fn longer(self) -> Run
-        requires { (out-Run self).count + 1 < 2 ^ 64 }
-        ensures { runs_of result ≡ ((out-Run self).layer, (out-Run self).count + 1) ∷ under_of (runs_of self) }
+    fn longer(self, n: u64) -> Run
+        requires { (out-Run self).count + n < 2 ^ 64 }
+        ensures { runs_of result ≡ ((out-Run self).layer, (out-Run self).count + n) ∷ under_of (runs_of self) }
     {
         let Run {
             layer,
@@ -82,7 +82,7 @@ impl Run {
         } = self;
         Run {
             layer,
-            count: count + 1,
+            count: count + n,
             under,
         }
     }
@@ -121,18 +121,19 @@ impl Run {
         }
     }
 
-    // The run and one layer over it.
+    // The run and equal layers over it, at least one.
     #[tactic(auto, using(crate::proofs::Stretches::over_steps))]
-    pub(crate) fn over(self, alloc: Global, layer: Layer) -> Result<Run, Memory>
-        requires short { length (wide (runs_of self)) + 1 < 2 ^ 64 }
+    pub(crate) fn over(self, alloc: Global, layer: Layer, n: u64) -> Result<Run, Memory>
+        requires some { 0 < n }
+        requires short { length (wide (runs_of self)) + n < 2 ^ 64 }
         requires apart { Apart (runs_of self) }
-        ensures layers { IfOk result (λ over. wide (runs_of over) ≡ layer ∷ wide (runs_of self)) }
+        ensures layers { IfOk result (λ over. wide (runs_of over) ≡ replicate n layer ++ wide (runs_of self)) }
         ensures apart { IfOk result (λ over. Apart (runs_of over)) }
     {
         if self.layer == layer {
-            Ok(self.longer())
+            Ok(self.longer(n))
         } else {
-            Run::another(alloc, layer, self)
+            Run::another(alloc, layer, n, self)
         }
     }
 
@@ -148,6 +149,17 @@ impl Run {
         } else {
             self.below()
         }
+    }
+
+    // All but the whole run.
+    #[tactic(auto, using(crate::proofs::Stretches::under_steps))]
+    pub(crate) fn without(self) -> Result<Option<Run>, Memory>
+        requires { Apart (runs_of self) }
+        ensures layers { IfOk result (λ below. wide (runs_if_any below) ≡ drop (out-Run self).count (wide (runs_of self))) }
+        ensures len { IfOk result (λ below. length (wide (runs_if_any below)) + (out-Run self).count ≡ length (wide (runs_of self))) }
+        ensures apart { IfOk result (λ below. Apart (runs_if_any below)) }
+    {
+        self.below()
     }
 }
 
@@ -186,18 +198,24 @@ pub(crate) fn runs_same(run: &Run, other: &Run) -> bool
     }
 }
 
-// A layer over runs, if there are any.
-pub(crate) fn put_over(alloc: Global, layer: Layer, runs: Option<Run>) -> Result<Run, Memory>
-    requires short { length (wide (runs_if_any runs)) + 1 < 2 ^ 64 }
+// Equal layers, at least one, over runs, if there are any.
+pub(crate) fn put_over(
+    alloc: Global,
+    layer: Layer,
+    n: u64,
+    runs: Option<Run>,
+) -> Result<Run, Memory>
+    requires some { 0 < n }
+    requires short { length (wide (runs_if_any runs)) + n < 2 ^ 64 }
     requires apart { Apart (runs_if_any runs) }
-    ensures layers { IfOk result (λ over. wide (runs_of over) ≡ layer ∷ wide (runs_if_any runs)) }
+    ensures layers { IfOk result (λ over. wide (runs_of over) ≡ replicate n layer ++ wide (runs_if_any runs)) }
     ensures apart { IfOk result (λ over. Apart (runs_of over)) }
 {
     match runs {
-        Some(run) => run.over(alloc, layer),
+        Some(run) => run.over(alloc, layer, n),
         None => Ok(Run {
             layer,
-            count: 1,
+            count: n,
             under: None,
         }),
     }

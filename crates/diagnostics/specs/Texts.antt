@@ -1,7 +1,8 @@
 -- The names and the texts of refusals.
-use Rattle.std.specs.Prelude.{ℕ, [], ◌∷◌, ◌++◌, get_or, codes, decimal}
+use Rattle.std.specs.Prelude.{ℕ, List, [], ◌∷◌, ◌++◌, ◌==◌, if◌then◌else◌, codes, decimal}
 use Rattle.cxx_base.specs.Texts.{Text}
 use Rattle.cxx_base.specs.declared.limits.TheConstants.{MAX_SOURCE, MAX_NESTING, MAX_PIECES, MAX_UNITS}
+use Rattle.cxx_base.specs.declared.cause.TheConstants as cause
 use Rattle.cxx_base.specs.declared.code.Code.{Code}
 use Rattle.cxx_base.specs.declared.code.Code.TheVariants.{L1, L2, L3, L4, L5, L6, S1, S2, P1, P2, N1, N2, N3, N4, N5, T1, T2, T3, T4, T5, T6, T7, T8, T9, T10, V1, V2, V3, V4, V5, V6, V7, V8, V9, V10, V11, V12, V13, V14, V15, M1, M2, M3, M4, M5, M6, M7, R1}
 
@@ -56,17 +57,25 @@ code_name M6 = codes "M6"
 code_name M7 = codes "M7"
 code_name R1 = codes "R1"
 
--- why an operation of whole numbers has no value, where a greater number counts as the last cause
+-- the text that stands beside a detail, or the last one where none does
+abbrev pub text_of_cause : List (ℕ × Text) → Text → ℕ → Text
+text_of_cause [] last detail = last
+text_of_cause (known ∷ more) last detail = if detail == known.0 then known.1 else text_of_cause more last detail
+
+-- why an operation of whole numbers has no value: the last text is that of `SHIFT_COUNT`, and of any greater number
 abbrev pub arithmetic_cause : ℕ → Text
 arithmetic_cause detail =
-    get_or (codes "signed overflow" ∷ codes "division by zero" ∷ codes "least value divided by -1" ∷ []) detail
-    (codes "shift count out of range")
+    text_of_cause
+    ((cause.SIGNED_OVERFLOW, codes "signed overflow") ∷ (cause.DIVISION_BY_ZERO, codes "division by zero")
+    ∷ (cause.LEAST_BY_MINUS_ONE, codes "least value divided by -1") ∷ [])
+    (codes "shift count out of range") detail
 
--- why a call has no value, counted in the same way
+-- why a call has no value: the last text is that of `ENDED_WITHOUT_VALUE`, and of any greater number
 abbrev pub call_cause : ℕ → Text
 call_cause detail =
-    get_or (codes "function is not constexpr" ∷ codes "no definition before this point" ∷ []) detail
-    (codes "function ended without a value")
+    text_of_cause
+    ((cause.NOT_CONSTEXPR, codes "function is not constexpr") ∷ (cause.NOT_DEFINED_YET, codes "no definition before this point") ∷ [])
+    (codes "function ended without a value") detail
 
 -- what the report says of a refusal; the line has ` is refused` behind the piece that is refused
 abbrev pub text : Code → ℕ → Text

@@ -3,7 +3,7 @@
 ghost use Rattle.std.specs.Prelude.{◌≡◌};
 ghost use Rattle.diagnostics.specs.Texts as spec;
 
-use cxx_base::{Code, Refusal};
+use cxx_base::{Code, Refusal, cause};
 
 /// What the report says of a refusal behind its code. The text of `R1` begins with a space, since the line has the
 /// piece that is refused before it. The numbers are those of the limits.
@@ -68,9 +68,9 @@ fn arithmetic_cause(detail: u64) -> &'static str
     ensures { result.now ≡ spec.arithmetic_cause detail }
 {
     match detail {
-        0 => "signed overflow",
-        1 => "division by zero",
-        2 => "least value divided by -1",
+        cause::SIGNED_OVERFLOW => "signed overflow",
+        cause::DIVISION_BY_ZERO => "division by zero",
+        cause::LEAST_BY_MINUS_ONE => "least value divided by -1",
         _ => "shift count out of range",
     }
 }
@@ -80,8 +80,8 @@ fn call_cause(detail: u64) -> &'static str
     ensures { result.now ≡ spec.call_cause detail }
 {
     match detail {
-        0 => "function is not constexpr",
-        1 => "no definition before this point",
+        cause::NOT_CONSTEXPR => "function is not constexpr",
+        cause::NOT_DEFINED_YET => "no definition before this point",
         _ => "function ended without a value",
     }
 }

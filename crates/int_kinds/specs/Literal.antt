@@ -23,7 +23,8 @@ abbrev pub first_holding : ℕ → List IntKind → Option IntKind
 first_holding n [] = None
 first_holding n (kind ∷ others) = if int_le (pos n) (greatest_of kind) then Some kind else first_holding n others
 
--- The kind of a literal of value n, which has no bound here: decimal or not, with `u` or without, and with so many `l`.
+-- The kind of a literal of value n, which has no bound here: decimal or not, with `u` or without, and with so many `l`, of which
+-- more than two count as two.
 abbrev pub kind_of_literal : Test → Test → ℕ → ℕ → Option IntKind
 kind_of_literal decimal unsigned longs n = first_holding n (literal_kinds decimal unsigned longs)
 

@@ -1,34 +1,28 @@
 -- Assignments and expressions, which share their first unary expression.
-use Rattle.std.proofs.Common.{◌≡◌, ℕ, zero, suc, ◌+◌, ◌-◌, ◌<◌, ◌≤◌, Bool, true, false, ◌||◌, if◌then◌else◌, ◌==◌, Option, Some, None, ◌⊎◌, inl, inr, refl, ap, subst, ◌∙◌, sym, arith}
+use Rattle.std.proofs.Common.{◌≡◌, ℕ, ◌+◌, ◌-◌, ◌≤◌, Bool, true, false, ◌||◌, if◌then◌else◌, ◌==◌, Option, Some, None, refl, subst, ◌∙◌, sym, arith}
 use Rattle.std.proofs.lemmas.Bool.{eqb-true, eqb-false}
 use Rattle.std.specs.Option.{is_some}
-use Rattle.cxx_base.specs.declared.operator.IntOp.{IntOp}
 use Rattle.cxx_tree.specs.declared.expr.Expr.{Expr}
-use Rattle.cxx_tree.specs.declared.stmt.ForStep.{ForStep}
-use Rattle.cxx_tree.specs.declared.stmt.ForStep.TheVariants as for-step-of
-use Rattle.cxx_tree.specs.declared.stmt.StepOp.{StepOp}
-use Rattle.cxx_tree.specs.declared.stmt.AssignTree.{AssignTree}
 use Rattle.cxx_tokens.specs.declared.token.Tokens.{Tokens}
 use Rattle.cxx_tokens.specs.declared.mark.TheConstants as mark
 use Rattle.cxx_reading.specs.declared.seen.Seen.{Seen}
 use Rattle.cxx_reading.specs.declared.seen.Seen.TheVariants.{Identifier, Integer, Character, Text, Word, Punctuator}
 use Rattle.cxx_reading.specs.Any.{given, punctuator_of, any_punctuator}
-use Rattle.cxx_reading.specs.Reading.{End, Tree, No, Why, Nothing, TooDeep, Rule, and_then, longer, kind, is_punctuator, punctuator, optional, left}
+use Rattle.cxx_reading.specs.Reading.{Tree, No, Nothing, TooDeep, and_then, kind, is_punctuator, punctuator}
 use Rattle.cxx_reading.proofs.Starts.{or_left, or_right, is_that_punctuator, longer_nothing, no_punctuator_at, optional_none}
 use Rattle.cxx_reading.proofs.Factor.{assoc, pointwise, factor}
-use Rattle.cxx_grammar.specs.Lists.{arg}
 use Rattle.cxx_grammar.specs.Unaries.{unary}
-use Rattle.cxx_grammar.specs.Expressions.{arms, expr}
+use Rattle.cxx_grammar.specs.Expressions.{arms}
 use Rattle.cxx_grammar.specs.Operators.{unary_mark, line_at, next_line}
 use Rattle.cxx_grammar.specs.Joined.{climbed, choice_from, expr_from}
 use Rattle.cxx_grammar.specs.Read.{read}
 use Rattle.cxx_grammar.specs.Locals.{compound_mark, step_before_mark, step_behind_mark, compound, before, behind, step_before, assign_equal, assign_compound, step_behind, assign}
 use Rattle.cxx_grammar.proofs.Begins.{no_given}
-use Rattle.cxx_grammar.proofs.Chains.{climbs_no_further, expr_by_unary}
-use Rattle.cxx_grammar.proofs.Levels.{last_unary, at_expr, at_unary}
+use Rattle.cxx_grammar.proofs.Chains.{climbs_no_further}
+use Rattle.cxx_grammar.proofs.Levels.{last_unary, at_unary}
 use Rattle.cxx_grammar.proofs.PrimaryArms.{no_primary_at}
 use Rattle.cxx_grammar.proofs.UnaryArms.{no_postfix, unary_punctuator}
-use Rattle.parse_assign.specs.Joined.{is_step, is_step_behind, is_compound, assigns, equal_value, equal_rest, compound_rest, behind_rest, assign_rest, assign_placed, closed_assign, closed_expr, closed_rest, closed_placed, closed_step, closed}
+use Rattle.parse_assign.specs.Joined.{is_step, is_step_behind, is_compound, assigns, equal_value, equal_rest, compound_rest, behind_rest, assign_rest, assign_placed}
 
 -- ---- the marks
 

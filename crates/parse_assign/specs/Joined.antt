@@ -1,6 +1,6 @@
 -- Assignments and expressions, which share their first unary expression, as the parser reads them. Nobody need believe this file: in
 -- proofs/ each form is shown to give what the grammar's own forms give.
-use Rattle.std.specs.Prelude.{ℕ, ◌+◌, Bool, true, false, ◌||◌, if◌then◌else◌, Option, Some, None}
+use Rattle.std.specs.Prelude.{ℕ, ◌+◌, Bool, false, ◌||◌, if◌then◌else◌, Option, Some}
 use Rattle.std.specs.Option.{is_some}
 use Rattle.cxx_tree.specs.declared.expr.ArgTree.{ArgTree}
 use Rattle.cxx_tree.specs.declared.expr.Expr.{Expr}
@@ -12,7 +12,7 @@ use Rattle.cxx_tokens.specs.declared.token.Tokens.{Tokens}
 use Rattle.cxx_tokens.specs.declared.mark.TheConstants as mark
 use Rattle.cxx_reading.specs.declared.seen.Seen.{Seen}
 use Rattle.cxx_reading.specs.declared.seen.Seen.TheVariants as seen_kind
-use Rattle.cxx_reading.specs.Reading.{End, Rule, and_then, ◌>>=◌, ◌>>◌, longer, pure, punctuator, is_punctuator, kind, from}
+use Rattle.cxx_reading.specs.Reading.{Rule, and_then, ◌>>=◌, ◌>>◌, longer, pure, punctuator, is_punctuator, kind, from}
 use Rattle.cxx_grammar.specs.Lists.{arg}
 use Rattle.cxx_grammar.specs.Read.{read}
 use Rattle.cxx_grammar.specs.Joined.{expr_from}

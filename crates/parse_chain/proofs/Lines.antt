@@ -1,19 +1,17 @@
 -- Which operator stands at a token, and what the lines above an operand come to.
-use Rattle.std.proofs.Common.{◌≡◌, ℕ, zero, suc, ◌+◌, ◌-◌, ◌<◌, ◌≤◌, Bool, true, false, if◌then◌else◌, ◌==◌, nat_lt, List, [], ◌∷◌, ◌++◌, Option, Some, None, ap, ◌∙◌, sym, refl, arith}
+use Rattle.std.proofs.Common.{◌≡◌, ℕ, zero, suc, ◌+◌, ◌-◌, ◌<◌, ◌≤◌, Bool, true, false, if◌then◌else◌, nat_lt, List, [], Option, Some, None, ap, ◌∙◌, sym, refl, arith}
 use Rattle.std.proofs.lemmas.Bool.{eq-eqb, ne_eqb, lt-ltb, le-ltb, ltb-true, ltb-false}
 use Rattle.cxx_tree.specs.declared.expr.Expr.{Expr}
 use Rattle.cxx_tree.specs.declared.expr.Operation.{Operation}
-use Rattle.cxx_tree.specs.declared.operator.BinaryOp.{BinaryOp}
 use Rattle.cxx_tokens.specs.declared.token.Tokens.{Tokens}
 use Rattle.cxx_reading.specs.declared.seen.Seen.{Seen}
 use Rattle.cxx_reading.specs.declared.seen.Seen.TheVariants.{Identifier, Integer, Character, Text, Word, Punctuator}
 use Rattle.cxx_reading.specs.Any.{given, any_punctuator, punctuator_of}
-use Rattle.cxx_reading.specs.Reading.{End, Tree, No, Nothing, and_then, kind, left, repeated}
+use Rattle.cxx_reading.specs.Reading.{End, Tree, No, Nothing, and_then, kind, left}
 use Rattle.cxx_reading.proofs.Turns.{turns_none}
 use Rattle.cxx_reading.proofs.Factor.{assoc, unit, pointwise}
 use Rattle.cxx_grammar.specs.declared.operator.Operator.{Operator}
 use Rattle.cxx_grammar.specs.Operators.{binary_mark, of_line, line}
-use Rattle.cxx_grammar.specs.Expressions.{operations_on, chain, with_operations}
 use Rattle.cxx_grammar.specs.Joined.{operations, climbed}
 use Rattle.cxx_grammar.specs.Rules.{Rules}
 use Rattle.parse_chain.specs.Next.{mark_at, before, operator_at}

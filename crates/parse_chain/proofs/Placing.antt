@@ -1,5 +1,5 @@
 -- The steps of a climb, as the functions make them.
-use Rattle.std.proofs.Common.{◌≡◌, ℕ, ◌+◌, ◌-◌, ◌<◌, ◌≤◌, List, [], ◌∷◌, ◌++◌, Some, None, ap, ◌∙◌, sym, refl, arith}
+use Rattle.std.proofs.Common.{◌≡◌, ℕ, ◌+◌, ◌<◌, ◌≤◌, List, [], ◌∷◌, ◌++◌, Some, None, ap, ◌∙◌, sym}
 use Rattle.cxx_tree.specs.declared.expr.Expr.{Expr}
 use Rattle.cxx_tokens.specs.declared.token.Tokens.{Tokens}
 use Rattle.cxx_reading.specs.Extents.{EndsFrom}
@@ -92,6 +92,10 @@ module _ (tokens : Tokens) (i : ℕ) (before : List OpenChain) (first : ℕ) (wh
 module _ (tokens : Tokens) (level : ℕ) where
   pub first_turn : (chains : List OpenChain) (start : ℕ) (x : Expr) (i : ℕ) → chains ≡ [] → climbed tokens (read tokens level) 10 start x i ≡ climb tokens (read tokens level) chains 0 start x i
   first_turn chains start x i e = climb_is tokens (read tokens level) start x i ∙ ap (λ (all : List OpenChain). climb tokens (read tokens level) all 0 start x i) (sym e)
+
+  -- where no operator stands, the operand is all
+  pub ends_at_once : (start : ℕ) (x : Expr) (i : ℕ) → operator_at tokens i ≡ None → climbed tokens (read tokens level) 10 start x i ≡ Tree x i
+  ends_at_once start x i e = climb_is tokens (read tokens level) start x i ∙ idle_all tokens (read tokens level) i (no_operator tokens (read tokens level) i e) start x
 
   pub operand_behind : (y : Expr) (j k : ℕ) → unary tokens (read tokens level) j ≡ Tree y k → j + 1 ≤ k
   operand_behind y j k e = let f : EndsFrom (j + 1) (unary tokens (read tokens level) j) = (extents.unary tokens (read tokens level) (forwards.read tokens level) (extents.read tokens level)).at j in rw e at f

@@ -1,14 +1,13 @@
 -- What a climb comes to does not change with its steps.
-use Rattle.std.proofs.Common.{◌≡◌, ℕ, zero, suc, ◌+◌, ◌-◌, ◌<◌, ◌≤◌, Bool, true, false, ◌==◌, nat_lt, List, [], ◌∷◌, ◌++◌, Some, None, ap, ◌∙◌, sym, refl, arith}
+use Rattle.std.proofs.Common.{◌≡◌, ℕ, ◌+◌, ◌-◌, ◌<◌, ◌≤◌, Bool, true, false, ◌==◌, nat_lt, List, [], ◌∷◌, ◌++◌, Some, None, ap, ◌∙◌, sym, refl, arith}
 use Rattle.std.proofs.lemmas.Bool.{eqb-true, eqb-false, ltb-true, ltb-false}
 use Rattle.cxx_base.specs.declared.place.Span.{Span}
 use Rattle.cxx_tree.specs.declared.expr.Expr.{Expr}
 use Rattle.cxx_tree.specs.declared.expr.Expr.TheVariants as expr-of
 use Rattle.cxx_tree.specs.declared.expr.Operation.{Operation}
 use Rattle.cxx_tree.specs.declared.expr.Operation.TheVariants as operation-of
-use Rattle.cxx_tree.specs.declared.operator.BinaryOp.{BinaryOp}
 use Rattle.cxx_tokens.specs.declared.token.Tokens.{Tokens}
-use Rattle.cxx_reading.specs.Reading.{End, Tree, No, Nothing, TooDeep, Rule, and_then, left, repeated, span}
+use Rattle.cxx_reading.specs.Reading.{End, Tree, No, Nothing, TooDeep, and_then, left, span}
 use Rattle.cxx_reading.proofs.Turns.{turns_none}
 use Rattle.cxx_reading.proofs.Factor.{assoc, pointwise}
 use Rattle.cxx_grammar.specs.declared.operator.Operator.{Operator}
@@ -17,14 +16,12 @@ use Rattle.cxx_grammar.specs.Unaries.{unary}
 use Rattle.cxx_grammar.specs.Expressions.{with_operations}
 use Rattle.cxx_grammar.specs.Joined.{operations, climbed}
 use Rattle.cxx_grammar.specs.Rules.{Rules}
-use Rattle.cxx_grammar.specs.Read.{read}
-use Rattle.cxx_grammar.proofs.Forwards as forwards
 use Rattle.cxx_grammar.proofs.Forwards.{ForwardRules}
 use Rattle.parse_chain.specs.declared.open_chain.OpenChain.{OpenChain}
 use Rattle.parse_chain.specs.Chains.{operations_with, closed, extended, opened}
-use Rattle.parse_chain.specs.Climbs.{Rest, above, operations_of, behind, inside, within, outermost, climb, Places, Idle, Finishes}
+use Rattle.parse_chain.specs.Climbs.{Rest, above, operations_of, behind, inside, within, outermost, climb, Idle}
 use Rattle.parse_chain.specs.Next.{operator_at}
-use Rattle.parse_chain.proofs.Lines.{line_there, no_line, no_lines, no_operation, no_more, above_idle, above_none, above_all, above_split, above_skip}
+use Rattle.parse_chain.proofs.Lines.{line_there, no_line, no_lines, no_operation, above_idle, above_none, above_all, above_split, above_skip}
 use Rattle.parse_chain.proofs.Turning.{part_nothing, turn_deep, turn}
 
 -- a list with a last operation is a chain

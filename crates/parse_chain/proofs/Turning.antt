@@ -1,13 +1,12 @@
 -- An operation at the beginning of what is left of a chain.
-use Rattle.std.proofs.Common.{◌≡◌, ℕ, zero, suc, ◌+◌, ◌-◌, ◌<◌, ◌≤◌, List, [], ◌∷◌, ◌++◌, ap, ◌∙◌, sym, refl, arith}
+use Rattle.std.proofs.Common.{◌≡◌, ℕ, zero, suc, ◌+◌, ◌-◌, ◌≤◌, List, [], ◌∷◌, ◌++◌, ap, ◌∙◌, refl, arith}
 use Rattle.cxx_tree.specs.declared.expr.Expr.{Expr}
 use Rattle.cxx_tree.specs.declared.expr.Operation.{Operation}
 use Rattle.cxx_tree.specs.declared.expr.Operation.TheVariants as operation-of
 use Rattle.cxx_tree.specs.declared.operator.BinaryOp.{BinaryOp}
 use Rattle.cxx_tokens.specs.declared.token.Tokens.{Tokens}
-use Rattle.cxx_reading.specs.Any.{any_punctuator}
 use Rattle.cxx_reading.specs.Extents.{EndsFrom, Forward, Rises, Needs, IsNothing, Reads}
-use Rattle.cxx_reading.specs.Reading.{End, Tree, No, Nothing, TooDeep, Rule, and_then, go_on, turns, left, repeated, span}
+use Rattle.cxx_reading.specs.Reading.{End, Tree, No, Nothing, TooDeep, and_then, go_on, turns, left, repeated, span}
 use Rattle.cxx_reading.proofs.Turns.{turns_deep}
 use Rattle.cxx_reading.proofs.Bounds.{same_turns}
 use Rattle.cxx_reading.proofs.Factor.{assoc}
@@ -17,7 +16,7 @@ use Rattle.cxx_reading.proofs.Needs.{needing}
 use Rattle.cxx_reading.proofs.Always.{always_reads}
 use Rattle.cxx_grammar.specs.Operators.{line}
 use Rattle.cxx_grammar.specs.Unaries.{unary}
-use Rattle.cxx_grammar.specs.Expressions.{operations_on, chain}
+use Rattle.cxx_grammar.specs.Expressions.{chain}
 use Rattle.cxx_grammar.specs.Joined.{operations, climbed}
 use Rattle.cxx_grammar.specs.Rules.{Rules}
 use Rattle.cxx_grammar.proofs.Forwards as forwards

@@ -4,7 +4,7 @@ use Rattle.std.specs.Prelude.{◌≡◌, ℕ, zero, suc, ◌+◌, nat_lt, if◌t
 use Rattle.cxx_tree.specs.declared.expr.Expr.{Expr}
 use Rattle.cxx_tree.specs.declared.expr.Operation.{Operation}
 use Rattle.cxx_tokens.specs.declared.token.Tokens.{Tokens}
-use Rattle.cxx_reading.specs.Reading.{End, Tree, No, Nothing, Rule, and_then, repeated, span}
+use Rattle.cxx_reading.specs.Reading.{Tree, No, Nothing, Rule, and_then, repeated, span}
 use Rattle.cxx_grammar.specs.Expressions.{operations_on, chain, with_operations}
 use Rattle.cxx_grammar.specs.Joined.{operations}
 use Rattle.cxx_grammar.specs.Read.{read}

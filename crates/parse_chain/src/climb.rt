@@ -101,10 +101,9 @@ fn finished(
     Ok(x)
 }
 
-/// The operations of all lines behind an operand `x` that began at token number `start` and ends before number `at`. `operand`
-/// reads a further operand at a token.
+// The operations of all lines behind an operand, as `climbed` gives them.
 #[inline(never)]
-pub fn climbed<D, O: Fn(u32) -> Result<(Expr, u32), ExprFault>>(
+fn climbed_on<D, O: Fn(u32) -> Result<(Expr, u32), ExprFault>>(
     reader: &Reader<'_, D>,
     operand: O,
     mut start: u32,
@@ -134,4 +133,24 @@ pub fn climbed<D, O: Fn(u32) -> Result<(Expr, u32), ExprFault>>(
     }
     let made = finished(reader.alloc, reader.tokens, chains, start, x, at)?;
     Ok((made, at))
+}
+
+/// The operations of all lines behind an operand `x` that began at token number `start` and ends before number `at`. `operand`
+/// reads a further operand at a token. Behind most operands no operator stands, and then nothing is built.
+#[tactic(auto, using(crate::proofs::Placing::ends_at_once))]
+pub fn climbed<D, O: Fn(u32) -> Result<(Expr, u32), ExprFault>>(
+    reader: &Reader<'_, D>,
+    operand: O,
+    start: u32,
+    x: Expr,
+    at: u32,
+) -> Result<(Expr, u32), ExprFault>
+    requires callable { O.IsAlwaysCallable operand }
+    requires reads { ReadsRule (unary reader.now.tokens.now (read reader.now.tokens.now reader.now.level)) (O.post operand) }
+    ensures { Gives (joined.climbed reader.now.tokens.now (read reader.now.tokens.now reader.now.level) 10 start x at) result }
+{
+    match operator_at(reader.tokens, at) {
+        Some(_) => climbed_on(reader, operand, start, x, at),
+        None => Ok((x, at)),
+    }
 }

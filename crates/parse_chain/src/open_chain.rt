@@ -37,6 +37,17 @@ impl Drop for OpenChain {
     }
 }
 
+// The operations so far. Where there are none, a second one is sure to follow the first, so there is room for two.
+fn with_room(alloc: Global, done: Items<Operation>) -> Result<Items<Operation>, AllocError>
+    ensures { IfOk result (λ after. after ≡ done) }
+{
+    if done.is_empty() {
+        Ok(Items::from_vec(Vec::with_capacity(alloc, 2)?))
+    } else {
+        Ok(done)
+    }
+}
+
 impl OpenChain {
     ghost use Rattle.parse_chain.specs.Chains as spec;
 
@@ -76,12 +87,13 @@ impl OpenChain {
             line,
             start,
             first,
-            mut done,
+            done,
             op: last,
             begin,
         } = self;
         let operation = Operation::Operation(span(tokens, begin, end), last, x);
-        push(alloc, &mut done, operation)?;
+        let mut done = with_room(alloc, done)?;
+        done.push(operation)?;
         Ok(OpenChain {
             line,
             start,

@@ -1,21 +1,19 @@
 -- What a member and a declaration are, by their first tokens.
-use Rattle.std.proofs.Common.{◌≡◌, ℕ, ◌+◌, ◌≤◌, Bool, true, false, ◌&&◌, ◌||◌, if◌then◌else◌, ◌==◌, Option, Some, None, refl, subst, sym, ◌∙◌}
+use Rattle.std.proofs.Common.{◌≡◌, ℕ, ◌+◌, ◌≤◌, Bool, true, false, ◌&&◌, ◌||◌, ◌==◌, Option, Some, None, refl, subst, sym}
 use Rattle.std.specs.Option.{is_some}
 use Rattle.std.proofs.lemmas.Bool.{eqb-true}
-use Rattle.cxx_tree.specs.declared.decl.Decl.{Decl}
-use Rattle.cxx_tree.specs.declared.decl.Member.{Member}
 use Rattle.cxx_tokens.specs.declared.token.Tokens.{Tokens}
 use Rattle.cxx_tokens.specs.declared.mark.TheConstants.{SEMICOLON, LEFT_BRACE}
 use Rattle.cxx_tokens.specs.declared.keyword.TheConstants.{NAMESPACE, USING, STRUCT, CLASS, ENUM, STATIC_ASSERT, CONSTEVAL, PUBLIC, PROTECTED, PRIVATE}
 use Rattle.cxx_reading.specs.declared.seen.Seen.{Seen}
 use Rattle.cxx_reading.specs.declared.seen.Seen.TheVariants.{Identifier, Integer, Character, Text, Word, Punctuator}
-use Rattle.cxx_reading.specs.Reading.{End, Tree, No, Nothing, and_then, longer, kind, is_punctuator, is_word}
+use Rattle.cxx_reading.specs.Reading.{No, Nothing, kind, is_punctuator, is_word}
 use Rattle.cxx_reading.proofs.Factor.{assoc}
 use Rattle.cxx_reading.proofs.Starts.{or_left, or_right, is_that_punctuator, is_that_word, longer_nothing}
 use Rattle.cxx_grammar.specs.Nests.{Nests}
 use Rattle.cxx_grammar.specs.Declarations.{key_of_word}
 use Rattle.cxx_grammar.specs.Classes.{access_of_word, access_member, empty_member, alias_member, enum_member, assert_member, block_member, class_member, namespace_decl, alias_decl, enum_decl, assert_decl, block_decl, class_decl, member, decl}
-use Rattle.parse_class.specs.Joined.{decl_of, member_of, is_access, is_key, is_plain, plain_alias, plain_enum, plain_assert, plain_block, plain_class, plain, plain_decl, plain_member, declared_decl, member_declared}
+use Rattle.parse_class.specs.Joined.{is_access, is_key, is_plain, plain_alias, plain_enum, plain_assert, plain_block, plain_class, plain, plain_decl, plain_member, declared_decl, member_declared}
 use Rattle.parse_class.proofs.Joins.{member_declared_is, decl_declared_is}
 use Rattle.parse_class.proofs.Blocks.{no_block_at, no_block_decl_at, no_data_at_block, no_function_at_block, no_constructor_at_block, no_destructor_at_block, no_function_decl_at_block, no_variable_decl_at_block}
 use Rattle.parse_class.proofs.Nothing.{no_access_member, no_empty_member, no_alias_member, no_class_member, no_enum_member, no_assert_member, no_block_member, no_data_member, no_function_member, no_constructor_member, no_destructor_member, no_namespace_decl, no_alias_decl, no_class_decl, no_enum_decl, no_assert_decl, no_block_decl, no_function_declared, no_variable_declared}

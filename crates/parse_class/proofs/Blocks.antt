@@ -6,8 +6,7 @@ use Rattle.cxx_tokens.specs.declared.mark.TheConstants.{LEFT_BRACE, TILDE}
 use Rattle.cxx_tokens.specs.declared.keyword.TheConstants.{CONSTEVAL}
 use Rattle.cxx_reading.specs.declared.seen.Seen.TheVariants.{Word, Punctuator}
 use Rattle.cxx_reading.specs.Any.{any_word}
-use Rattle.cxx_reading.specs.Extents.{Needs}
-use Rattle.cxx_reading.specs.Reading.{Rule, Tree, No, Nothing, kind, left, is_word, is_punctuator, turns, word}
+use Rattle.cxx_reading.specs.Reading.{Rule, Tree, No, Nothing, kind, left, is_word, is_punctuator}
 use Rattle.cxx_reading.proofs.Starts.{word_there, no_punctuator, no_any_word_at, any_word_there, no_identifier_at}
 use Rattle.cxx_reading.proofs.Needs.{needs_any_word}
 use Rattle.cxx_reading.proofs.Turns.{turns_none, turns_more}

@@ -1,5 +1,5 @@
 -- A class is declared alone where a semicolon follows its name.
-use Rattle.std.proofs.Common.{◌≡◌, ℕ, ◌+◌, Bool, true, false, [], Some, refl, inl, inr, arith, ap}
+use Rattle.std.proofs.Common.{◌≡◌, ℕ, ◌+◌, Bool, true, false, [], Some, refl, inl, inr, arith}
 use Rattle.cxx_tree.specs.declared.decl.Member.{Member}
 use Rattle.cxx_tokens.specs.declared.token.Tokens.{Tokens}
 use Rattle.cxx_tokens.specs.declared.mark.TheConstants.{SEMICOLON, COLON, LEFT_BRACE}
@@ -8,7 +8,8 @@ use Rattle.cxx_reading.specs.Reading.{Tree, No, Nothing, Rule, kind, is_punctuat
 use Rattle.cxx_reading.proofs.Starts.{no_punctuator, no_punctuator_at, is_that_punctuator, if_any_none, longer_nothing}
 use Rattle.cxx_grammar.specs.Classes.{bases, some_bases, class_declared, class_defined, class}
 use Rattle.parse_class.specs.Joined.{class_joined}
-use Rattle.parse_class.proofs.Tokens.{identifier_or_none, key_or_none}
+use Rattle.cxx_reading.proofs.Identifiers.{identifier_or_none}
+use Rattle.parse_class.proofs.Tokens.{key_or_none}
 
 module _ (tokens : Tokens) (level : ℕ) (inner : Rule Member) (i : ℕ) where
   behind : i + 1 + 1 ≡ i + 2

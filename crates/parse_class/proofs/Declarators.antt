@@ -1,5 +1,5 @@
 -- What stands behind the name of a function and of a variable, and types that stand before no name.
-use Rattle.std.proofs.Common.{◌≡◌, ℕ, ◌+◌, ◌≤◌, Bool, true, false, ◌&&◌, ◌∷◌, [], Option, Some, None, refl, ◌∙◌, arith, ◌==◌}
+use Rattle.std.proofs.Common.{◌≡◌, ℕ, ◌+◌, ◌≤◌, Bool, true, false, ◌&&◌, [], Option, Some, refl, ◌∙◌, arith, ◌==◌}
 use Rattle.cxx_tree.specs.declared.identifier.Identifier.{Identifier as IdentifierTree}
 use Rattle.cxx_tree.specs.declared.identifier.NameTree.{NameTree}
 use Rattle.cxx_tree.specs.declared.expr.BasicTree.{BasicTree}
@@ -7,17 +7,17 @@ use Rattle.cxx_tree.specs.declared.expr.BasicTree.TheVariants as basic-of
 use Rattle.cxx_tree.specs.declared.expr.TypeTree.{TypeTree}
 use Rattle.cxx_tree.specs.declared.expr.TypeTree.TheVariants as type-of
 use Rattle.cxx_tokens.specs.declared.token.Tokens.{Tokens}
-use Rattle.cxx_tokens.specs.declared.mark.TheConstants.{LEFT_PAREN, LEFT_BRACKET, LEFT_BRACE, EQUAL, SEMICOLON, SCOPE, STAR, AMPERSAND}
+use Rattle.cxx_tokens.specs.declared.mark.TheConstants.{LEFT_PAREN, LEFT_BRACKET, LEFT_BRACE, EQUAL, SEMICOLON, SCOPE, AMPERSAND}
 use Rattle.cxx_tokens.specs.declared.keyword.TheConstants.{CONST}
 use Rattle.cxx_reading.specs.declared.seen.Seen.{Seen}
 use Rattle.cxx_reading.specs.declared.seen.Seen.TheVariants.{Identifier, Punctuator}
-use Rattle.cxx_reading.specs.Reading.{End, Tree, No, Nothing, Rule, and_then, guard, kind, left, span, punctuator, word, present, optional, identifier, is_identifier, is_punctuator}
+use Rattle.cxx_reading.specs.Reading.{Tree, No, Nothing, Rule, and_then, kind, left, span, punctuator, word, identifier, is_identifier, is_punctuator}
 use Rattle.cxx_reading.proofs.Starts.{no_punctuator, no_punctuator_at, no_word_at, no_identifier_at, is_that_punctuator, present_none, optional_none, guard_holds, no_guard}
 use Rattle.cxx_reading.proofs.Turns.{turns_none}
 use Rattle.cxx_base.specs.declared.library.TheConstants.{STD}
 use Rattle.cxx_grammar.specs.declared.specifier.DeclWords.{DeclWords}
 use Rattle.cxx_grammar.specs.Names.{named, vector_head, part, parts, parts_on, any_name, name}
-use Rattle.cxx_grammar.specs.Types.{pointer, pointers, pointers_on, basic_name, basic, type_tree}
+use Rattle.cxx_grammar.specs.Types.{pointers, pointers_on, basic_name, basic, type_tree}
 use Rattle.cxx_grammar.specs.Read.{read}
 use Rattle.cxx_grammar.specs.Sequences.{with_next}
 use Rattle.cxx_grammar.specs.Nests.{Nests}
@@ -27,7 +27,7 @@ use Rattle.cxx_grammar.proofs.Begins.{starts_type, no_type, no_braced, no_pointe
 use Rattle.cxx_grammar.proofs.Levels.{at_type_tree, at_braced}
 use Rattle.cxx_grammar.proofs.TypeArms.{name_elsewhere, basic_at_name}
 use Rattle.parse_class.specs.Joined.{begins_constructor, function_rest, variable_rest}
-use Rattle.parse_class.proofs.Tokens.{is_that_identifier, identifier_there}
+use Rattle.cxx_reading.proofs.Identifiers.{is_that_identifier, identifier_there}
 
 both_left : (a b : Bool) → (a && b) ≡ true → a ≡ true
 both_left true b h = refl

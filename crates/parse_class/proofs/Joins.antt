@@ -1,26 +1,23 @@
 -- Declarations that begin with specifiers give together what the joined forms give.
-use Rattle.std.proofs.Common.{◌≡◌, ℕ, ◌+◌, ◌≤◌, Bool, true, false, ◌&&◌, if◌then◌else◌, Option, Some, None, refl, inl, inr, ◌∙◌}
+use Rattle.std.proofs.Common.{◌≡◌, ℕ, ◌+◌, ◌≤◌, Bool, true, false, ◌&&◌, Some, refl, inl, inr, ◌∙◌}
 use Rattle.cxx_tree.specs.declared.identifier.Identifier.{Identifier as IdentifierTree}
 use Rattle.cxx_tree.specs.declared.expr.TypeTree.{TypeTree}
-use Rattle.cxx_tree.specs.declared.decl.Decl.{Decl}
 use Rattle.cxx_tree.specs.declared.decl.Decl.TheVariants as decl-of
-use Rattle.cxx_tree.specs.declared.decl.Member.{Member}
 use Rattle.cxx_tree.specs.declared.decl.Member.TheVariants as member-of
 use Rattle.cxx_tokens.specs.declared.token.Tokens.{Tokens}
 use Rattle.cxx_tokens.specs.declared.mark.TheConstants.{LEFT_PAREN, TILDE}
 use Rattle.cxx_tokens.specs.declared.keyword.TheConstants.{EXPLICIT}
-use Rattle.cxx_reading.specs.declared.seen.Seen.{Seen}
-use Rattle.cxx_reading.specs.declared.seen.Seen.TheVariants.{Identifier, Punctuator, Word}
+use Rattle.cxx_reading.specs.declared.seen.Seen.TheVariants.{Punctuator, Word}
 use Rattle.cxx_reading.specs.Reading.{End, Tree, No, Nothing, Rule, and_then, longer, kind, left, is_identifier, is_punctuator, is_word, identifier}
 use Rattle.cxx_reading.proofs.Factor.{assoc, pointwise, factor}
-use Rattle.cxx_reading.proofs.Starts.{no_punctuator, no_punctuator_at, no_identifier, no_identifier_at, is_that_punctuator, is_that_word, longer_nothing, nothing_longer}
+use Rattle.cxx_reading.proofs.Starts.{no_punctuator, no_identifier, is_that_punctuator, is_that_word, longer_nothing}
 use Rattle.cxx_grammar.specs.declared.specifier.DeclWords.{DeclWords}
 use Rattle.cxx_grammar.specs.Read.{read}
 use Rattle.cxx_grammar.specs.Nests.{Nests}
 use Rattle.cxx_grammar.specs.Declarations.{no_words, specifiers, constructor_words, parameters, variable, function}
 use Rattle.cxx_grammar.specs.Classes.{tilde, constructor_form, destructor_form, data_member, function_member, constructor_member, destructor_member, function_decl, variable_decl}
 use Rattle.parse_class.specs.Joined.{decl_of, member_of, begins_constructor, function_rest, variable_rest, constructor_rest, destructor_rest, function_behind, variable_behind, behind_name, behind_words, declared, declared_decl, member_typed, constructor_behind, destructor_behind, member_behind, member_worded, member_declared}
-use Rattle.parse_class.proofs.Tokens.{identifier_or_none, is_identifier_there}
+use Rattle.cxx_reading.proofs.Identifiers.{identifier_or_none, is_identifier_there}
 use Rattle.parse_class.proofs.Words.{ends, specifiers_read, constructor_words_read}
 use Rattle.parse_class.proofs.Declarators.{no_type_here, no_variable_rest, no_function_rest, no_typed_at}
 

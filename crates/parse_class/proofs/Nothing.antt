@@ -1,18 +1,17 @@
 -- What members, declarations and items give where their first token does not stand.
-use Rattle.std.proofs.Common.{◌≡◌, ℕ, ◌+◌, ◌≤◌, Bool, true, false, Option, Some, None, refl, ◌∙◌}
-use Rattle.std.specs.Option.{is_some, is_none}
-use Rattle.cxx_tree.specs.declared.decl.Member.{Member}
+use Rattle.std.proofs.Common.{◌≡◌, ℕ, ◌+◌, ◌≤◌, Bool, false, Option, Some, None, refl, ◌∙◌}
+use Rattle.std.specs.Option.{is_some}
 use Rattle.cxx_tokens.specs.declared.token.Tokens.{Tokens}
-use Rattle.cxx_tokens.specs.declared.mark.TheConstants.{COLON, SEMICOLON, LEFT_BRACE, RIGHT_BRACE, TILDE, EQUAL}
+use Rattle.cxx_tokens.specs.declared.mark.TheConstants.{SEMICOLON, TILDE}
 use Rattle.cxx_tokens.specs.declared.keyword.TheConstants.{NAMESPACE, USING, ENUM, STATIC_ASSERT, CONSTEVAL}
 use Rattle.cxx_reading.specs.declared.seen.Seen.{Seen}
 use Rattle.cxx_reading.specs.declared.seen.Seen.TheVariants.{Identifier, Integer, Character, Text, Word, Punctuator}
 use Rattle.cxx_reading.specs.Any.{given, word_of, any_word}
-use Rattle.cxx_reading.specs.Reading.{End, Tree, No, Nothing, Rule, and_then, kind, left, is_word, is_punctuator, is_identifier}
-use Rattle.cxx_reading.proofs.Starts.{no_word_at, no_punctuator_at, no_identifier_at, no_punctuator, no_word, is_that_word}
+use Rattle.cxx_reading.specs.Reading.{Tree, No, Nothing, and_then, kind, left, is_word, is_punctuator, is_identifier}
+use Rattle.cxx_reading.proofs.Starts.{no_word_at, no_punctuator_at, no_identifier_at}
 use Rattle.cxx_reading.proofs.Turns.{turns_none}
 use Rattle.cxx_grammar.specs.Read.{read}
-use Rattle.cxx_grammar.specs.Nests.{Nests, of_function, of_block}
+use Rattle.cxx_grammar.specs.Nests.{Nests}
 use Rattle.cxx_grammar.specs.Locals.{assert, alias}
 use Rattle.cxx_grammar.specs.Declarations.{no_words, with_spec, with_constructor_word, key_of_word, specifier, specifiers, constructor_word, constructor_words, key, namespace_alias, block, enumeration}
 use Rattle.cxx_grammar.specs.Classes.{access_of_word, access, access_member, empty_member, alias_member, enum_member, assert_member, block_member, data_member, function_member, constructor_member, destructor_member, namespace_decl, alias_decl, enum_decl, function_decl, variable_decl, assert_decl, block_decl, class_declared, class_defined, class, class_member, class_decl}

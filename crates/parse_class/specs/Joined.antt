@@ -1,6 +1,6 @@
 -- Declarations that share a beginning, each read as one, as the parser reads them, and those of namespaces and classes together.
 -- Nobody need believe this file: in proofs/ each is shown to give what the grammar's own forms give.
-use Rattle.std.specs.Prelude.{ℕ, ◌+◌, Bool, true, false, ◌&&◌, ◌||◌, if◌then◌else◌, [], Option, Some, None}
+use Rattle.std.specs.Prelude.{ℕ, ◌+◌, Bool, true, false, ◌&&◌, ◌||◌, if◌then◌else◌, [], Option, Some}
 use Rattle.std.specs.Option.{is_some}
 use Rattle.cxx_tree.specs.declared.identifier.Identifier.{Identifier}
 use Rattle.cxx_tree.specs.declared.expr.TypeTree.{TypeTree}

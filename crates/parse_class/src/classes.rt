@@ -3,9 +3,8 @@
 ghost use Rattle.cxx_grammar.specs.Classes as spec;
 ghost use Rattle.cxx_reading.specs.Reading.{Gives};
 
-use crate::look::sees_ahead;
 use crate::named::are_named;
-use cxx_reading::{ExprFault, expect, identifier, span};
+use cxx_reading::{ExprFault, expect, identifier, sees_ahead, span};
 use cxx_tokens::Tokens;
 use cxx_tokens::mark::{LEFT_BRACE, RIGHT_BRACE, SEMICOLON};
 use cxx_tree::{ClassTree, Member};

@@ -16,5 +16,4 @@ mod special;
 pub use bodies::{block, body};
 pub use classes::class;
 pub use decls::decl;
-pub use look::sees_ahead;
 pub use members::member;

@@ -1,25 +1,15 @@
 //! What the tokens there say of the declaration that begins with them.
 
 ghost use Rattle.std.specs.Prelude.{◌≡◌, ◌+◌};
-ghost use Rattle.cxx_reading.specs.Reading.{is_punctuator, kind};
+ghost use Rattle.cxx_reading.specs.Reading.{kind};
 ghost use Rattle.parse_class.specs.Joined as joined;
 
-use cxx_reading::{Seen, kind_ahead, kind_at, sees_identifier};
+use cxx_reading::{Seen, kind_at, sees_ahead, sees_identifier};
 use cxx_tokens::Tokens;
 use cxx_tokens::keyword::{
     CLASS, CONSTEVAL, ENUM, PRIVATE, PROTECTED, PUBLIC, STATIC_ASSERT, STRUCT, USING,
 };
 use cxx_tokens::mark::{LEFT_BRACE, LEFT_PAREN};
-
-/// Whether this punctuator stands so many tokens later.
-pub fn sees_ahead(tokens: &Tokens, mark: u32, at: u32, ahead: u32) -> bool
-    ensures { result ≡ is_punctuator mark (kind tokens.now (at + ahead)) }
-{
-    match kind_ahead(tokens, at, ahead) {
-        Some(Seen::Punctuator(n)) => n == mark,
-        _ => false,
-    }
-}
 
 /// Whether an identifier and a parenthesis stand there.
 pub fn begins_constructor(tokens: &Tokens, at: u32) -> bool

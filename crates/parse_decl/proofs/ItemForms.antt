@@ -7,17 +7,16 @@ use Rattle.cxx_tokens.specs.declared.mark.TheConstants.{EQUAL, LEFT_BRACE, RIGHT
 use Rattle.cxx_tokens.specs.declared.keyword.TheConstants.{NAMESPACE}
 use Rattle.cxx_reading.specs.declared.seen.Seen.{Seen}
 use Rattle.cxx_reading.specs.declared.seen.Seen.TheVariants.{Identifier, Integer, Character, Text, Word, Punctuator}
-use Rattle.cxx_reading.specs.Reading.{Tree, No, Nothing, Rule, kind, left, is_word, is_punctuator}
+use Rattle.cxx_reading.specs.Reading.{Tree, No, Nothing, kind, left, is_word, is_punctuator}
 use Rattle.cxx_reading.proofs.Starts.{no_word_at, no_punctuator, no_punctuator_at, is_that_punctuator, word_there, longer_nothing}
 use Rattle.cxx_reading.proofs.Turns.{turns_none}
 use Rattle.cxx_grammar.specs.Names.{part, parts, parts_on}
 use Rattle.cxx_grammar.specs.Declarations.{namespace_alias}
 use Rattle.cxx_grammar.specs.Classes.{namespace_decl, decl}
-use Rattle.cxx_grammar.specs.Nests.{Nests}
 use Rattle.cxx_grammar.specs.Nesting.{read_nests, declaration}
 use Rattle.cxx_grammar.specs.Units.{namespace_head, close_item, decl_item, empty_item, item}
 use Rattle.parse_decl.specs.Joined.{namespace_item}
-use Rattle.parse_class.proofs.Tokens.{identifier_or_none}
+use Rattle.cxx_reading.proofs.Identifiers.{identifier_or_none}
 use Rattle.parse_class.proofs.Arms.{decl_namespace}
 use Rattle.parse_class.proofs.Nothing.{no_namespace_decl, no_alias_decl, no_class_decl, no_enum_decl, no_function_declared, no_variable_declared, no_assert_decl, no_block_decl}
 

@@ -1,2 +1,4 @@
 mod ItemForms
+mod Taking
 mod UnitTurns
+mod Whole

@@ -1,6 +1,6 @@
 -- Items that share a beginning, read as one. Nobody need believe this file: in proofs/ they are shown to give what the grammar's own
 -- forms give.
-use Rattle.std.specs.Prelude.{ℕ, ◌+◌, if◌then◌else◌}
+use Rattle.std.specs.Prelude.{◌+◌, if◌then◌else◌}
 use Rattle.cxx_tree.specs.declared.decl.Item.{Item}
 use Rattle.cxx_tokens.specs.declared.token.Tokens.{Tokens}
 use Rattle.cxx_tokens.specs.declared.mark.TheConstants as mark

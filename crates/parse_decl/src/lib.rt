@@ -8,4 +8,4 @@ mod units;
 
 pub use levels::body;
 pub use syntax_fault::SyntaxFault;
-pub use units::unit;
+pub use units::{Taker, unit, unit_to};

@@ -2,18 +2,15 @@
 
 use cxx_base::Place;
 use std::alloc::AllocError;
-use thiserror::Error;
 
 /// Why a text has no unit, with the place that is told.
-#[derive(Clone, Copy, Debug, PartialEq, Eq, Error)]
+#[derive(Clone, Copy, Debug, PartialEq, Eq)]
 pub enum SyntaxFault {
     /// No item begins there, or it is a `}` that closes nothing, or a namespace is open at the end.
-    #[error("syntax error")]
     S1(Place),
     /// The item that begins there is too deep.
-    #[error("the nesting is too deep")]
     S2(Place),
-    #[error("no memory was found")]
+    /// No memory was found for the trees.
     Memory,
 }
 

@@ -1,20 +1,23 @@
 //! Whole source texts ([basic.link]).
 
-ghost use Rattle.std.specs.Prelude.{◌≡◌, ◌+◌, ◌<◌, ◌^◌};
+ghost use Rattle.std.specs.Prelude.{◌≡◌, ◌+◌, ◌<◌, ◌^◌, List, [], ◌∷◌, ◌++◌, OnOk};
 ghost use Rattle.cxx_grammar.specs.Units as spec;
 ghost use Rattle.cxx_reading.specs.Reading.{Gives};
-ghost use Rattle.parse_decl.specs.Answers.{Says};
+ghost use Rattle.cxx_tree.specs.declared.decl.Item.{Item};
+ghost use Rattle.parse_decl.specs.Answers.{Says, SaysOf};
 ghost use Rattle.parse_decl.specs.Joined as joined;
 
 use crate::levels::declaration;
 use crate::syntax_fault::SyntaxFault;
 use containers::{Boxed, Items};
-use cxx_reading::{ExprFault, Seen, expect, expect_word, identifier, kind_at, single, span};
+use cxx_base::Memory;
+use cxx_reading::{
+    ExprFault, Seen, expect, expect_word, identifier, kind_at, sees_ahead, single, span,
+};
 use cxx_tokens::Tokens;
 use cxx_tokens::keyword::NAMESPACE;
 use cxx_tokens::mark::{EQUAL, LEFT_BRACE, RIGHT_BRACE, SEMICOLON};
 use cxx_tree::{Item, Unit};
-use parse_class::sees_ahead;
 use parse_type::parts;
 use std::alloc::Global;
 
@@ -116,32 +119,48 @@ fn closes_none(heads: u64, item: &Item) -> bool
     }
 }
 
-// The unit of the items, where no namespace is open at the end, which is at this token.
+/// Takes the items of a unit, one after the other, so that a unit need not stand whole. `took` says that these were taken, in order.
+pub trait Taker {
+    ghost took: { Self → List Item → Type 0 };
+
+    /// Takes one more item. Without memory nothing is said of what was taken.
+    fn take(&mut self, item: Item) -> Result<(), Memory>
+        ensures { OnOk result ((items : List Item) → took self.old items → took self.new (items ++ item ∷ [])) };
+}
+
+impl Taker for Items<Item> {
+    ghost took = { λ it items. it ≡ items };
+
+    fn take(&mut self, item: Item) -> Result<(), Memory> {
+        self.push(item)?;
+        Ok(())
+    }
+}
+
+// What is answered at the end, which is at this token: whether no namespace is open.
 #[tactic(auto, unfolding(cxx_reading::specs::Reading::span))]
-fn at_end(tokens: &Tokens, heads: u64, items: Items<Item>, at: u32) -> Result<Unit, SyntaxFault>
-    ensures { Says tokens.now (spec.at_end tokens.now heads items at) result }
+fn ends(tokens: &Tokens, heads: u64, at: u32) -> Result<(), SyntaxFault>
+    ensures { SaysOf tokens.now (spec.at_end tokens.now heads [] at) (λ items. items ≡ []) result }
 {
     if heads == 0 {
-        Ok(Unit { items })
+        Ok(())
     } else {
         Err(SyntaxFault::S1(span(tokens, at, at).place))
     }
 }
 
-/// The unit of a source text, exactly where the grammar derives one ([basic.link]). Otherwise the first item that is too
-/// deep, or where nothing begins, or that is a `}` that closes no namespace, decides: `S2` at its first character where it
-/// is too deep, and else `S1` there. Where all items read and a namespace is left open, it is `S1` just past the last
-/// character. Or `Memory`, of which nothing is said.
-#[tactic(auto, unfolding(cxx_reading::specs::Reading::span, cxx_grammar::specs::Units::unit), using(crate::proofs::UnitTurns::unit_turns))]
-pub fn unit(alloc: Global, tokens: &Tokens) -> Result<Unit, SyntaxFault>
-    ensures { Says tokens.now (spec.unit tokens.now) result }
+/// The items of a source text, each handed on as soon as it is read. Where no unit is derived, it answers as [`unit`] does, and some
+/// items may have been handed on before.
+#[tactic(auto, unfolding(cxx_reading::specs::Reading::span, cxx_grammar::specs::Units::unit), using(crate::proofs::UnitTurns::unit_turns, crate::proofs::Taking::sayings))]
+pub fn unit_to<T: Taker>(alloc: Global, tokens: &Tokens, taker: &mut T) -> Result<(), SyntaxFault>
+    requires { T.took taker.old [] }
+    ensures { SaysOf tokens.now (spec.unit tokens.now) (T.took taker.new) result }
 {
     let mut heads = 0;
-    let mut items = Items::new(alloc);
     let mut at = 0;
     for _turn in 0..tokens.list.len() {
         if at as usize >= tokens.list.len() {
-            return at_end(tokens, heads, items, at);
+            return ends(tokens, heads, at);
         }
         match item(alloc, tokens, at) {
             Ok((x, after)) => {
@@ -149,13 +168,30 @@ pub fn unit(alloc: Global, tokens: &Tokens) -> Result<Unit, SyntaxFault>
                     return Err(SyntaxFault::S1(span(tokens, at, at).place));
                 }
                 heads = opens(heads, &x);
-                items.push(x)?;
-                at = after;
+                match taker.take(x) {
+                    Ok(()) => at = after,
+                    Err(Memory) => return Err(SyntaxFault::Memory),
+                }
             }
             Err(ExprFault::S1) => return Err(SyntaxFault::S1(span(tokens, at, at).place)),
             Err(ExprFault::S2) => return Err(SyntaxFault::S2(span(tokens, at, at).place)),
             Err(ExprFault::Memory) => return Err(SyntaxFault::Memory),
         }
     }
-    at_end(tokens, heads, items, at)
+    ends(tokens, heads, at)
+}
+
+/// The unit of a source text, exactly where the grammar derives one ([basic.link]). Otherwise the first item that is too
+/// deep, or where nothing begins, or that is a `}` that closes no namespace, decides: `S2` at its first character where it
+/// is too deep, and else `S1` there. Where all items read and a namespace is left open, it is `S1` just past the last
+/// character. Or `Memory`, of which nothing is said.
+#[tactic(auto, using(crate::proofs::Whole::whole, crate::proofs::Whole::refused))]
+pub fn unit(alloc: Global, tokens: &Tokens) -> Result<Unit, SyntaxFault>
+    ensures { Says tokens.now (spec.unit tokens.now) result }
+{
+    let mut items = Items::new(alloc);
+    match unit_to(alloc, tokens, &mut items) {
+        Ok(()) => Ok(Unit { items }),
+        Err(fault) => Err(fault),
+    }
 }

@@ -9,7 +9,7 @@ ghost use Rattle.cxx_reading.specs.Reading.{optional};
 use crate::made;
 use crate::unary::unary_here;
 use cxx_grammar::Arms;
-use cxx_reading::{ExprFault, Reader, expect, optional, span};
+use cxx_reading::{ExprFault, Reader, expect, optional, sees, span};
 use cxx_tokens::mark::{COLON, QUESTION};
 use cxx_tree::Expr;
 use parse_chain::climbed;
@@ -40,7 +40,7 @@ fn arms_if_any<D: Deeper>(
 
 #[inline(never)]
 #[tactic(auto, unfolding(cxx_grammar::specs::Joined::choice_from))]
-fn choice_from<D: Deeper>(
+fn with_arms<D: Deeper>(
     reader: &Reader<'_, D>,
     start: u32,
     x: Expr,
@@ -52,6 +52,23 @@ fn choice_from<D: Deeper>(
     let (arms, end) = arms_if_any(reader, at)?;
     let span = span(reader.tokens, start, end);
     Ok((made::conditional(reader.alloc, x, arms, span)?, end))
+}
+
+#[tactic(auto, using(cxx_grammar::proofs::Looks::no_choice))]
+fn choice_from<D: Deeper>(
+    reader: &Reader<'_, D>,
+    start: u32,
+    x: Expr,
+    at: u32,
+) -> Result<(Expr, u32), ExprFault>
+    requires { D.ready reader.now.deeper reader.now.tokens.now reader.now.level }
+    ensures { Gives (spec.choice_from reader.now.tokens.now (read reader.now.tokens.now reader.now.level) start x at) result }
+{
+    if sees(reader.tokens, QUESTION, at) {
+        with_arms(reader, start, x, at)
+    } else {
+        Ok((x, at))
+    }
 }
 
 /// The rest of an expression that began at `start` with this unary expression.

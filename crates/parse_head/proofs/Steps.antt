@@ -1,5 +1,5 @@
 -- The step of a `for`: an assignment or an expression, which share their first unary expression, with the parenthesis behind it.
-use Rattle.std.proofs.Common.{◌≡◌, ℕ, ◌+◌, ◌≤◌, Bool, true, false, if◌then◌else◌, Option, Some, None, refl, ap, ◌∙◌, arith}
+use Rattle.std.proofs.Common.{◌≡◌, ℕ, ◌+◌, ◌≤◌, Bool, true, false, Option, Some, refl, ap, ◌∙◌}
 use Rattle.cxx_tree.specs.declared.expr.Expr.{Expr}
 use Rattle.cxx_tree.specs.declared.stmt.AssignTree.{AssignTree}
 use Rattle.cxx_tree.specs.declared.stmt.ForStep.{ForStep}
@@ -18,7 +18,7 @@ use Rattle.cxx_grammar.proofs.Forwards as forwards
 use Rattle.cxx_grammar.specs.Lists.{arg}
 use Rattle.cxx_grammar.specs.Joined.{expr_from}
 use Rattle.cxx_grammar.specs.Read.{read}
-use Rattle.cxx_grammar.specs.Locals.{compound, behind, assign}
+use Rattle.cxx_grammar.specs.Locals.{compound, behind}
 use Rattle.cxx_grammar.specs.Statements.{for_step}
 use Rattle.parse_assign.specs.Joined.{is_step, assigns, equal_value, equal_rest, compound_rest, behind_rest, assign_rest, assign_placed, closed_assign, closed_expr, closed_rest, closed_placed, closed_step, closed}
 use Rattle.parse_assign.proofs.Assignments.{no_unary_at_step, no_unary_at_mark, no_assign_rest, alone_paren, expr_ends, assign_at_step, assign_elsewhere}

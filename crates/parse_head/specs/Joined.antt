@@ -1,6 +1,6 @@
 -- The heads of both forms of `for`, which share their beginning, read as one. Nobody need believe this file: in proofs/ they are shown
 -- to give what the grammar's own forms give.
-use Rattle.std.specs.Prelude.{ℕ, ◌+◌, Bool, true, false, if◌then◌else◌, Option, Some, None}
+use Rattle.std.specs.Prelude.{ℕ, ◌+◌, Bool, false, if◌then◌else◌, Option, Some, None}
 use Rattle.cxx_tree.specs.declared.identifier.Identifier.{Identifier}
 use Rattle.cxx_tree.specs.declared.expr.Expr.{Expr}
 use Rattle.cxx_tree.specs.declared.expr.TypeTree.{TypeTree}

@@ -1,6 +1,6 @@
 //! The functions of a level.
 
-ghost use Rattle.parse_level.specs.Nests.{Nests};
+ghost use Rattle.parse_level.specs.Readable.{ReadsLevel};
 
 use crate::deeper::Deeper;
 use cxx_grammar::SizedOperand;
@@ -26,7 +26,7 @@ impl<
     T: Fn(Global, &Tokens, u32, u32) -> Result<(TypeTree, u32), ExprFault>,
     S: Fn(Global, &Tokens, u32, u32) -> Result<(SizedOperand, u32), ExprFault>,
 > Deeper for Levels<E, B, U, T, S> {
-    ghost ready = { λ levels tokens level. Nests tokens level (E.pre levels.expr) (E.post levels.expr) (B.pre levels.braced) (B.post levels.braced) (U.pre levels.unary) (U.post levels.unary) (T.pre levels.type_tree) (T.post levels.type_tree) (S.pre levels.sized) (S.post levels.sized) };
+    ghost ready = { λ levels tokens level. ReadsLevel tokens level (E.pre levels.expr) (E.post levels.expr) (B.pre levels.braced) (B.post levels.braced) (U.pre levels.unary) (U.post levels.unary) (T.pre levels.type_tree) (T.post levels.type_tree) (S.pre levels.sized) (S.post levels.sized) };
 
     fn expr(
         &self,

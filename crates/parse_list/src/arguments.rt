@@ -5,8 +5,8 @@ ghost use Rattle.cxx_grammar.specs.Read.{read};
 ghost use Rattle.cxx_reading.specs.Reading.{Gives};
 
 use containers::Items;
-use cxx_reading::{ExprFault, Reader, expect, if_any, longer, repeat, single, span};
-use cxx_tokens::mark::{COMMA, LEFT_PAREN, RIGHT_PAREN};
+use cxx_reading::{ExprFault, Reader, expect, if_any, longer, repeat, sees, single, span};
+use cxx_tokens::mark::{COMMA, LEFT_BRACE, LEFT_PAREN, RIGHT_PAREN};
 use cxx_tree::{ArgTree, ArgTrees};
 use parse_level::{Deeper, deep_braced, deep_expr};
 
@@ -30,13 +30,25 @@ fn arg_braced<D: Deeper>(reader: &Reader<'_, D>, start: u32) -> Result<(ArgTree,
     Ok((ArgTree::Braced(x), end))
 }
 
-/// An argument: an expression or a braced list.
 #[tactic(auto, unfolding(cxx_grammar::specs::Lists::arg), using(cxx_reading::proofs::Choices::choice))]
-pub fn arg<D: Deeper>(reader: &Reader<'_, D>, start: u32) -> Result<(ArgTree, u32), ExprFault>
+fn any_arg<D: Deeper>(reader: &Reader<'_, D>, start: u32) -> Result<(ArgTree, u32), ExprFault>
     requires { D.ready reader.now.deeper reader.now.tokens.now reader.now.level }
     ensures { Gives (spec.arg reader.now.tokens.now (read reader.now.tokens.now reader.now.level) start) result }
 {
     longer(arg_expr(reader, start), arg_braced(reader, start))
+}
+
+/// An argument: an expression or a braced list.
+#[tactic(auto, using(cxx_grammar::proofs::Looks::arg_elsewhere))]
+pub fn arg<D: Deeper>(reader: &Reader<'_, D>, start: u32) -> Result<(ArgTree, u32), ExprFault>
+    requires { D.ready reader.now.deeper reader.now.tokens.now reader.now.level }
+    ensures { Gives (spec.arg reader.now.tokens.now (read reader.now.tokens.now reader.now.level) start) result }
+{
+    if sees(reader.tokens, LEFT_BRACE, start) {
+        any_arg(reader, start)
+    } else {
+        arg_expr(reader, start)
+    }
 }
 
 #[tactic(auto, unfolding(cxx_grammar::specs::Lists::next_arg))]

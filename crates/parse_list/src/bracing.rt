@@ -1,5 +1,6 @@
 //! Braced lists ([dcl.init.list]).
 
+ghost use Rattle.cxx_grammar.specs.Joined as joined;
 ghost use Rattle.cxx_grammar.specs.Lists as spec;
 ghost use Rattle.cxx_grammar.specs.Read.{read};
 ghost use Rattle.cxx_reading.specs.Reading.{Gives};
@@ -8,11 +9,14 @@ use crate::arguments::arg;
 use crate::clauses::{first_clause, with_clause};
 use containers::Items;
 use cxx_grammar::{Clause, Clauses};
-use cxx_reading::{ExprFault, Reader, eat, expect, identifier, left, longer, span};
+use cxx_reading::{
+    ExprFault, Reader, eat, expect, identifier, left, longer, sees, sees_ahead, span,
+};
 use cxx_tokens::mark::{COMMA, DOT, EQUAL, LEFT_BRACE, RIGHT_BRACE};
 use cxx_tree::{BracedTree, Designator};
 use parse_level::{Deeper, deep_braced};
 
+#[inline(never)]
 #[tactic(auto, unfolding(cxx_grammar::specs::Lists::designator_equal))]
 fn designator_equal<D: Deeper>(
     reader: &Reader<'_, D>,
@@ -29,6 +33,7 @@ fn designator_equal<D: Deeper>(
     Ok((Designator::Equal(span, name, x), end))
 }
 
+#[inline(never)]
 #[tactic(auto, unfolding(cxx_grammar::specs::Lists::designator_braced))]
 fn designator_braced<D: Deeper>(
     reader: &Reader<'_, D>,
@@ -45,15 +50,16 @@ fn designator_braced<D: Deeper>(
 }
 
 #[inline(never)]
-#[tactic(auto, unfolding(cxx_grammar::specs::Lists::designator), using(cxx_reading::proofs::Choices::choice))]
+#[tactic(auto, using(cxx_grammar::proofs::Looks::designators))]
 fn designator<D: Deeper>(reader: &Reader<'_, D>, start: u32) -> Result<(Designator, u32), ExprFault>
     requires { D.ready reader.now.deeper reader.now.tokens.now reader.now.level }
     ensures { Gives (spec.designator reader.now.tokens.now (read reader.now.tokens.now reader.now.level) start) result }
 {
-    longer(
-        designator_equal(reader, start),
-        designator_braced(reader, start),
-    )
+    if sees_ahead(reader.tokens, EQUAL, start, 2) {
+        designator_equal(reader, start)
+    } else {
+        designator_braced(reader, start)
+    }
 }
 
 #[inline(never)]
@@ -80,7 +86,7 @@ fn clause_designator<D: Deeper>(
 }
 
 #[tactic(auto, unfolding(cxx_grammar::specs::Lists::clause), using(cxx_reading::proofs::Choices::choice))]
-fn clause<D: Deeper>(reader: &Reader<'_, D>, start: u32) -> Result<(Clause, u32), ExprFault>
+fn any_clause<D: Deeper>(reader: &Reader<'_, D>, start: u32) -> Result<(Clause, u32), ExprFault>
     requires { D.ready reader.now.deeper reader.now.tokens.now reader.now.level }
     ensures { Gives (spec.clause reader.now.tokens.now (read reader.now.tokens.now reader.now.level) start) result }
 {
@@ -88,6 +94,19 @@ fn clause<D: Deeper>(reader: &Reader<'_, D>, start: u32) -> Result<(Clause, u32)
         clause_plain(reader, start),
         clause_designator(reader, start),
     )
+}
+
+// A designator begins with a dot.
+#[tactic(auto, using(cxx_grammar::proofs::Looks::clause_elsewhere))]
+fn clause<D: Deeper>(reader: &Reader<'_, D>, start: u32) -> Result<(Clause, u32), ExprFault>
+    requires { D.ready reader.now.deeper reader.now.tokens.now reader.now.level }
+    ensures { Gives (spec.clause reader.now.tokens.now (read reader.now.tokens.now reader.now.level) start) result }
+{
+    if sees(reader.tokens, DOT, start) {
+        any_clause(reader, start)
+    } else {
+        clause_plain(reader, start)
+    }
 }
 
 #[tactic(auto, unfolding(cxx_grammar::specs::Lists::next_clause))]
@@ -123,17 +142,41 @@ fn more_clauses<D: Deeper>(
     Ok((found, at))
 }
 
+// A list of the first clause, apart from those behind it, so that not both stand on the stack.
 #[inline(never)]
-#[tactic(auto, unfolding(cxx_grammar::specs::Lists::some_clauses))]
+#[tactic(auto, unfolding(cxx_grammar::specs::Joined::one_clause))]
+fn one_clause<D: Deeper>(reader: &Reader<'_, D>, start: u32) -> Result<(Clauses, u32), ExprFault>
+    requires { D.ready reader.now.deeper reader.now.tokens.now reader.now.level }
+    ensures { Gives (joined.one_clause reader.now.tokens.now (read reader.now.tokens.now reader.now.level) start) result }
+{
+    let (first, at) = clause(reader, start)?;
+    let found = first_clause(reader.alloc, first)?;
+    Ok((found, at))
+}
+
+// The clauses behind the first one.
+#[tactic(auto, unfolding(cxx_grammar::specs::Joined::clauses_from))]
+fn clauses_from<D: Deeper>(
+    reader: &Reader<'_, D>,
+    found: Clauses,
+    at: u32,
+) -> Result<(Clauses, u32), ExprFault>
+    requires { D.ready reader.now.deeper reader.now.tokens.now reader.now.level }
+    ensures { Gives (joined.clauses_from reader.now.tokens.now (read reader.now.tokens.now reader.now.level) found at) result }
+{
+    let (found, at) = more_clauses(reader, found, at)?;
+    let (_, end) = eat(reader.tokens, COMMA, at);
+    Ok((found, end))
+}
+
+#[inline(never)]
+#[tactic(auto, using(cxx_grammar::proofs::Looks::clauses_by_one))]
 fn some_clauses<D: Deeper>(reader: &Reader<'_, D>, start: u32) -> Result<(Clauses, u32), ExprFault>
     requires { D.ready reader.now.deeper reader.now.tokens.now reader.now.level }
     ensures { Gives (spec.some_clauses reader.now.tokens.now (read reader.now.tokens.now reader.now.level) start) result }
 {
-    let (first, at) = clause(reader, start)?;
-    let found = first_clause(reader.alloc, first)?;
-    let (found, at) = more_clauses(reader, found, at)?;
-    let (_, end) = eat(reader.tokens, COMMA, at);
-    Ok((found, end))
+    let (found, at) = one_clause(reader, start)?;
+    clauses_from(reader, found, at)
 }
 
 #[tactic(auto, unfolding(cxx_grammar::specs::Lists::clauses_if_any, cxx_reading::specs::Reading::optional))]

@@ -1,5 +1,5 @@
 -- What begins a declaration in a body: how far its name goes, and what each kind of token says of it.
-use Rattle.std.proofs.Common.{◌≡◌, ℕ, zero, suc, ◌+◌, ◌-◌, ◌<◌, ◌≤◌, Bool, true, false, ◌||◌, if◌then◌else◌, ◌==◌, List, [], ◌∷◌, ◌++◌, Option, Some, None, refl, ap, ◌∙◌, sym, arith}
+use Rattle.std.proofs.Common.{◌≡◌, ℕ, zero, suc, ◌+◌, ◌-◌, ◌<◌, ◌≤◌, Bool, true, false, if◌then◌else◌, List, [], ◌∷◌, ◌++◌, Some, None, refl, ap, ◌∙◌, sym, arith}
 use Rattle.std.proofs.Math.Bool.{or-false}
 use Rattle.std.proofs.lemmas.Bool.{ne_eqb}
 use Rattle.cxx_tree.specs.declared.identifier.Identifier.{Identifier}
@@ -7,13 +7,13 @@ use Rattle.cxx_tokens.specs.declared.token.Tokens.{Tokens}
 use Rattle.cxx_tokens.specs.declared.mark.TheConstants as mark
 use Rattle.cxx_tokens.specs.declared.keyword.TheConstants.{CONSTEXPR, CONST, TYPENAME}
 use Rattle.cxx_reading.specs.declared.seen.Seen.TheVariants.{Identifier as SeenIdentifier, Integer, Character, Text, Word, Punctuator}
-use Rattle.cxx_reading.specs.Reading.{End, Tree, No, Why, Nothing, TooDeep, and_then, go_on, turns, kind, left, punctuator, present, identifier}
+use Rattle.cxx_reading.specs.Reading.{End, Tree, No, Nothing, TooDeep, and_then, go_on, turns, kind, left, punctuator, present, identifier}
 use Rattle.cxx_reading.proofs.Factor.{assoc, pointwise}
-use Rattle.cxx_grammar.specs.Names.{vector_head, part, parts_on, parts, any_name, name}
+use Rattle.cxx_grammar.specs.Names.{vector_head, part, parts_on, parts, any_name}
 use Rattle.cxx_grammar.specs.Fundamentals.{fund}
 use Rattle.cxx_grammar.specs.Locals.{points, behind_points, declares, stands_alone, begins_local}
 use Rattle.cxx_grammar.proofs.Begins.{no_vector_head, no_any_name, no_name, no_fund}
-use Rattle.cxx_grammar.proofs.TypeArms.{no_name_at_vector, name_elsewhere, name_at_scope}
+use Rattle.cxx_grammar.proofs.TypeArms.{name_elsewhere, name_at_scope}
 use Rattle.parse_local.specs.Joined.{part_on, behind_parts, behind_name, behind_point}
 
 -- ---- a walk over "*", "&" and "const" beside its loop

@@ -3,12 +3,13 @@
 use Rattle.std.specs.Prelude.{ℕ, ◌+◌, Bool, if◌then◌else◌, [], Option, Some, None}
 use Rattle.cxx_tree.specs.declared.identifier.Identifier.{Identifier}
 use Rattle.cxx_tree.specs.declared.expr.TypeTree.{TypeTree}
+use Rattle.cxx_tree.specs.declared.stmt.InitTree.{InitTree}
 use Rattle.cxx_tree.specs.declared.stmt.LocalTree.{LocalTree}
 use Rattle.cxx_tokens.specs.declared.token.Tokens.{Tokens}
 use Rattle.cxx_tokens.specs.declared.mark.TheConstants as mark
-use Rattle.cxx_reading.specs.Reading.{Rule, ◌>>=◌, ◌>>◌, pure, guard, present, optional, punctuator, identifier, repeated, from}
+use Rattle.cxx_reading.specs.Reading.{Rule, ◌>>=◌, ◌>>◌, ◌<|>◌, pure, guard, present, optional, punctuator, identifier, repeated, from}
 use Rattle.cxx_grammar.specs.Names.{part}
-use Rattle.cxx_grammar.specs.Locals.{fit_bounds, points, bounds, init}
+use Rattle.cxx_grammar.specs.Locals.{fit_bounds, points, bounds, init_equal, init_equal_braced, init}
 
 module _ (tokens : Tokens) where
   -- ---- names that are skipped
@@ -27,6 +28,11 @@ module _ (tokens : Tokens) where
   -- the token behind one of "*", "&" and "const"
   abbrev pub behind_point : ℕ → Option ℕ
   behind_point i = if points tokens i then Some (i + 1) else None
+
+  -- ---- initializers that begin with "="
+
+  unfoldable pub equals : ℕ → Rule InitTree
+  equals level = init_equal tokens level <|> init_equal_braced tokens level
 
   -- ---- declarations of local variables behind their name
 

@@ -2,10 +2,11 @@
 
 ghost use Rattle.cxx_grammar.specs.Locals as spec;
 ghost use Rattle.cxx_reading.specs.Reading.{Gives, optional};
+ghost use Rattle.parse_local.specs.Joined as joined;
 
 use containers::Boxed;
-use cxx_reading::{ExprFault, expect, longer};
-use cxx_tokens::mark::EQUAL;
+use cxx_reading::{ExprFault, expect, longer, sees, sees_ahead};
+use cxx_tokens::mark::{EQUAL, LEFT_BRACE};
 use cxx_tree::InitTree;
 use parse_expr::{braced_at, expression};
 use parse_repeat::{Here, Part, boxed_if_any};
@@ -40,6 +41,25 @@ impl Init<'_> {
         let (x, end) = braced_at(self.0.alloc, self.0.tokens, at, self.0.level)?;
         Ok((InitTree::Braced(x), end))
     }
+
+    #[tactic(auto, unfolding(crate::specs::Joined::equals), using(cxx_reading::proofs::Choices::choice))]
+    fn any_equal(&self, at: u32) -> Result<(InitTree, u32), ExprFault>
+        ensures { Gives (joined.equals self.now.0.tokens.now self.now.0.level at) result }
+    {
+        longer(self.equal(at), self.equal_braced(at))
+    }
+
+    // What begins with `=`.
+    #[tactic(auto, using(crate::proofs::Inits::equals_elsewhere))]
+    fn equals(&self, at: u32) -> Result<(InitTree, u32), ExprFault>
+        ensures { Gives (joined.equals self.now.0.tokens.now self.now.0.level at) result }
+    {
+        if sees_ahead(self.0.tokens, LEFT_BRACE, at, 1) {
+            self.any_equal(at)
+        } else {
+            self.equal(at)
+        }
+    }
 }
 
 impl Part for Init<'_> {
@@ -49,13 +69,14 @@ impl Part for Init<'_> {
 
     ghost part = { λ p. spec.init p.0.tokens.now p.0.level };
 
-    // At most one of the three goes past the second token, so nothing is read twice.
-    #[tactic(auto, unfolding(cxx_grammar::specs::Locals::init), using(cxx_reading::proofs::Choices::choice))]
+    // The first two tokens tell which of the three it is.
+    #[tactic(auto, using(crate::proofs::Inits::inits))]
     fn read(&self, at: u32) -> Result<(InitTree, u32), ExprFault> {
-        longer(
-            self.equal(at),
-            longer(self.equal_braced(at), self.braced(at)),
-        )
+        if sees(self.0.tokens, EQUAL, at) {
+            self.equals(at)
+        } else {
+            self.braced(at)
+        }
     }
 }
 

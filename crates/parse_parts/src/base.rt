@@ -5,12 +5,12 @@ ghost use Rattle.cxx_reading.specs.Reading.{Gives};
 
 use crate::specifier::AccessWord;
 use containers::Items;
-use cxx_reading::{ExprFault, expect, expect_word, longer, span};
+use cxx_reading::{ExprFault, expect, expect_word, if_any, longer, span};
 use cxx_tokens::keyword::TYPENAME;
 use cxx_tokens::mark::COLON;
 use cxx_tree::{BaseTree, BasedTree};
 use parse_expr::{name_at, splice_at};
-use parse_repeat::{Here, Part, comma_list, optional, or_empty};
+use parse_repeat::{Here, Part, comma_list, optional};
 
 // A base of a class at this level.
 #[derive(Clone, Copy)]
@@ -39,7 +39,7 @@ impl Base<'_> {
     {
         let at = expect_word(self.0.tokens, TYPENAME, start)?;
         let (x, end) = splice_at(self.0.alloc, self.0.tokens, at, self.0.level)?;
-        Ok((BasedTree::Typename(x), end))
+        Ok((BasedTree::Typename(span(self.0.tokens, start, end), x), end))
     }
 
     #[tactic(auto, unfolding(cxx_grammar::specs::Classes::based), using(cxx_reading::proofs::Choices::choice))]
@@ -79,9 +79,9 @@ fn some_bases(here: &Here<'_>, start: u32) -> Result<(Items<BaseTree>, u32), Exp
 }
 
 /// The base classes behind the name of a class, or none.
-#[tactic(auto, unfolding(cxx_grammar::specs::Classes::bases), using(parse_repeat::proofs::Missing::or_empty))]
+#[tactic(auto, unfolding(cxx_grammar::specs::Classes::bases), using(cxx_reading::proofs::Answers::any_left))]
 pub fn bases(here: &Here<'_>, start: u32) -> Result<(Items<BaseTree>, u32), ExprFault>
     ensures { Gives (spec.bases here.now.tokens.now here.now.level start) result }
 {
-    or_empty(here.alloc, some_bases(here, start), start)
+    if_any(here.alloc, some_bases(here, start), start)
 }

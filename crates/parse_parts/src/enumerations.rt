@@ -6,12 +6,12 @@ ghost use Rattle.cxx_reading.specs.Reading.{Gives};
 use crate::specifier::KeyWord;
 use containers::Items;
 use cxx_base::MAX_NESTING;
-use cxx_reading::{ExprFault, eat, expect, expect_word, identifier, span};
+use cxx_reading::{ExprFault, eat, expect, expect_word, identifier, if_any, span};
 use cxx_tokens::keyword::ENUM;
 use cxx_tokens::mark::{COLON, COMMA, EQUAL, LEFT_BRACE, RIGHT_BRACE, SEMICOLON};
 use cxx_tree::{EnumTree, EnumeratorTree, Expr, TypeTree};
 use parse_expr::{expression, type_at};
-use parse_repeat::{Here, Part, boxed_if_any, comma_list, optional, or_empty};
+use parse_repeat::{Here, Part, boxed_if_any, comma_list, optional};
 
 // The value of an enumerator of an enumeration at this level.
 #[derive(Clone, Copy)]
@@ -74,11 +74,11 @@ fn some_enumerators(here: &Here<'_>, start: u32) -> Result<(Items<EnumeratorTree
     Ok((found, end))
 }
 
-#[tactic(auto, unfolding(cxx_grammar::specs::Declarations::enumerators), using(parse_repeat::proofs::Missing::or_empty))]
+#[tactic(auto, unfolding(cxx_grammar::specs::Declarations::enumerators), using(cxx_reading::proofs::Answers::any_left))]
 fn enumerators(here: &Here<'_>, start: u32) -> Result<(Items<EnumeratorTree>, u32), ExprFault>
     ensures { Gives (spec.enumerators here.now.tokens.now here.now.level start) result }
 {
-    or_empty(here.alloc, some_enumerators(here, start), start)
+    if_any(here.alloc, some_enumerators(here, start), start)
 }
 
 // The type that an enumeration at this level stands on.

@@ -4,11 +4,11 @@ ghost use Rattle.cxx_grammar.specs.Classes as spec;
 ghost use Rattle.cxx_reading.specs.Reading.{Gives};
 
 use containers::Items;
-use cxx_reading::{ExprFault, expect, longer, span};
+use cxx_reading::{ExprFault, expect, if_any, longer, span};
 use cxx_tokens::mark::COLON;
 use cxx_tree::{MemberInit, MemberInitValue};
 use parse_expr::{args_at, braced_at, name_at};
-use parse_repeat::{Here, Part, comma_list, or_empty};
+use parse_repeat::{Here, Part, comma_list};
 
 // A member initializer of a constructor at this level.
 #[derive(Clone, Copy)]
@@ -65,9 +65,9 @@ fn some_inits(here: &Here<'_>, start: u32) -> Result<(Items<MemberInit>, u32), E
 }
 
 /// The member initializers of a constructor, or none.
-#[tactic(auto, unfolding(cxx_grammar::specs::Classes::member_inits), using(parse_repeat::proofs::Missing::or_empty))]
+#[tactic(auto, unfolding(cxx_grammar::specs::Classes::member_inits), using(cxx_reading::proofs::Answers::any_left))]
 pub fn member_inits(here: &Here<'_>, start: u32) -> Result<(Items<MemberInit>, u32), ExprFault>
     ensures { Gives (spec.member_inits here.now.tokens.now here.now.level start) result }
 {
-    or_empty(here.alloc, some_inits(here, start), start)
+    if_any(here.alloc, some_inits(here, start), start)
 }

@@ -9,6 +9,7 @@ use cxx_tokens::keyword::{FALSE, NULLPTR, THIS, TRUE};
 use cxx_tree::Expr;
 use std::alloc::Global;
 
+/// An integer literal ([lex.icon]). Answers `S1` exactly where none stands.
 #[tactic(auto, unfolding(cxx_grammar::specs::Primaries::integer_form))]
 pub fn integer_form(tokens: &Tokens, start: u32) -> Result<(Expr, u32), ExprFault>
     ensures { Gives (spec.integer_form tokens.now start) result }
@@ -18,6 +19,7 @@ pub fn integer_form(tokens: &Tokens, start: u32) -> Result<(Expr, u32), ExprFaul
     Ok((Expr::Integer(span, n), end))
 }
 
+/// A character literal ([lex.ccon]). Answers `S1` exactly where none stands.
 #[tactic(auto, unfolding(cxx_grammar::specs::Primaries::character_form))]
 pub fn character_form(tokens: &Tokens, start: u32) -> Result<(Expr, u32), ExprFault>
     ensures { Gives (spec.character_form tokens.now start) result }
@@ -27,6 +29,7 @@ pub fn character_form(tokens: &Tokens, start: u32) -> Result<(Expr, u32), ExprFa
     Ok((Expr::Character(span, n), end))
 }
 
+/// A string literal ([lex.string]). Answers `S1` exactly where none stands.
 #[tactic(auto, unfolding(cxx_grammar::specs::Primaries::text_form))]
 pub fn text_form(alloc: Global, tokens: &Tokens, start: u32) -> Result<(Expr, u32), ExprFault>
     ensures { Gives (spec.text_form tokens.now start) result }
@@ -36,6 +39,7 @@ pub fn text_form(alloc: Global, tokens: &Tokens, start: u32) -> Result<(Expr, u3
     Ok((Expr::Text(span, n), end))
 }
 
+/// `true` ([lex.bool]). Answers `S1` exactly where none stands.
 #[tactic(auto, unfolding(cxx_grammar::specs::Primaries::true_form))]
 pub fn true_form(tokens: &Tokens, start: u32) -> Result<(Expr, u32), ExprFault>
     ensures { Gives (spec.true_form tokens.now start) result }
@@ -45,6 +49,7 @@ pub fn true_form(tokens: &Tokens, start: u32) -> Result<(Expr, u32), ExprFault>
     Ok((Expr::Truth(span, true), end))
 }
 
+/// `false` ([lex.bool]). Answers `S1` exactly where none stands.
 #[tactic(auto, unfolding(cxx_grammar::specs::Primaries::false_form))]
 pub fn false_form(tokens: &Tokens, start: u32) -> Result<(Expr, u32), ExprFault>
     ensures { Gives (spec.false_form tokens.now start) result }
@@ -54,6 +59,7 @@ pub fn false_form(tokens: &Tokens, start: u32) -> Result<(Expr, u32), ExprFault>
     Ok((Expr::Truth(span, false), end))
 }
 
+/// `nullptr` ([lex.nullptr]). Answers `S1` exactly where none stands.
 #[tactic(auto, unfolding(cxx_grammar::specs::Primaries::nullptr_form))]
 pub fn nullptr_form(tokens: &Tokens, start: u32) -> Result<(Expr, u32), ExprFault>
     ensures { Gives (spec.nullptr_form tokens.now start) result }
@@ -63,6 +69,7 @@ pub fn nullptr_form(tokens: &Tokens, start: u32) -> Result<(Expr, u32), ExprFaul
     Ok((Expr::Nullptr(span), end))
 }
 
+/// `this` ([expr.prim.this]). Answers `S1` exactly where none stands.
 #[tactic(auto, unfolding(cxx_grammar::specs::Primaries::this_form))]
 pub fn this_form(tokens: &Tokens, start: u32) -> Result<(Expr, u32), ExprFault>
     ensures { Gives (spec.this_form tokens.now start) result }

@@ -15,6 +15,7 @@ use parse_level::{Deeper, deep_expr};
 use parse_list::braced_list;
 use parse_type::{basic_vector, splice, type_tree};
 
+/// An expression in parentheses ([expr.prim.paren]). Answers `S1` exactly where none begins, `S2` exactly where it is too deep, or `Memory`.
 #[inline(never)]
 #[tactic(auto, unfolding(cxx_grammar::specs::Primaries::paren_form))]
 pub fn paren_form<D: Deeper>(reader: &Reader<'_, D>, start: u32) -> Result<(Expr, u32), ExprFault>
@@ -28,6 +29,7 @@ pub fn paren_form<D: Deeper>(reader: &Reader<'_, D>, start: u32) -> Result<(Expr
     Ok((Expr::Paren(span(reader.tokens, start, end), x), end))
 }
 
+/// A splice (P2996R13). Answers `S1` exactly where none begins, `S2` exactly where it is too deep, or `Memory`.
 #[inline(never)]
 #[tactic(auto, unfolding(cxx_grammar::specs::Primaries::splice_form))]
 pub fn splice_form<D: Deeper>(reader: &Reader<'_, D>, start: u32) -> Result<(Expr, u32), ExprFault>
@@ -38,6 +40,7 @@ pub fn splice_form<D: Deeper>(reader: &Reader<'_, D>, start: u32) -> Result<(Exp
     Ok((Expr::Splice(x), end))
 }
 
+/// A `static_cast` ([expr.static.cast]). Answers `S1` exactly where none begins, `S2` exactly where it is too deep, or `Memory`.
 #[inline(never)]
 #[tactic(auto, unfolding(cxx_grammar::specs::Primaries::cast_form))]
 pub fn cast_form<D: Deeper>(reader: &Reader<'_, D>, start: u32) -> Result<(Expr, u32), ExprFault>
@@ -55,6 +58,7 @@ pub fn cast_form<D: Deeper>(reader: &Reader<'_, D>, start: u32) -> Result<(Expr,
     Ok((static_cast(reader.alloc, span, to, x)?, end))
 }
 
+/// A `std::vector` of some type with a braced list behind it ([expr.type.conv]). Answers `S1` exactly where none begins, `S2` exactly where it is too deep, or `Memory`.
 #[inline(never)]
 #[tactic(auto, unfolding(cxx_grammar::specs::Joined::vector_form))]
 pub fn vector_form<D: Deeper>(reader: &Reader<'_, D>, start: u32) -> Result<(Expr, u32), ExprFault>

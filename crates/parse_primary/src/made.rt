@@ -12,6 +12,7 @@ use cxx_tree::{
 };
 use std::alloc::{AllocError, Global};
 
+/// A type with a braced list behind it.
 pub fn braced(
     alloc: Global,
     span: Span,
@@ -84,6 +85,7 @@ pub fn name_made(
     }
 }
 
+/// A cast to a type.
 pub fn static_cast(alloc: Global, span: Span, to: TypeTree, x: Expr) -> Result<Expr, AllocError>
     ensures { IfOk result (λ made. made ≡ expr_of.StaticCast span to x) }
 {
@@ -92,6 +94,7 @@ pub fn static_cast(alloc: Global, span: Span, to: TypeTree, x: Expr) -> Result<E
     Ok(Expr::StaticCast(span, to, x))
 }
 
+/// `extract` with its type and argument.
 pub fn extract(
     alloc: Global,
     span: Span,

@@ -17,7 +17,7 @@ use crate::made::{extract, fund_made, name_made, typename_made};
 use cxx_base::library::EXTRACT;
 use cxx_reading::{ExprFault, Reader, Seen, expect, expect_word, kind_at, optional, sees, span};
 use cxx_tokens::keyword::{FALSE, NULLPTR, STATIC_CAST, THIS, TRUE, TYPENAME};
-use cxx_tokens::mark::{GREATER, LEFT_PAREN, LEFT_SPLICE, LESS, RIGHT_PAREN};
+use cxx_tokens::mark::{GREATER, LEFT_BRACE, LEFT_PAREN, LEFT_SPLICE, LESS, RIGHT_PAREN};
 use cxx_tree::{BracedTree, Expr, Fund, NameTree, SpliceTree};
 use parse_level::{Deeper, deep_expr};
 use parse_list::braced_list;
@@ -71,7 +71,7 @@ fn braced_if_any<D: Deeper>(
 
 #[inline(never)]
 #[tactic(auto, unfolding(cxx_grammar::specs::Joined::name_rest))]
-fn name_rest<D: Deeper>(
+fn name_with_list<D: Deeper>(
     reader: &Reader<'_, D>,
     start: u32,
     name: NameTree,
@@ -83,6 +83,24 @@ fn name_rest<D: Deeper>(
     let (list, end) = braced_if_any(reader, at)?;
     let span = span(reader.tokens, start, end);
     Ok((name_made(reader.alloc, span, name, list)?, end))
+}
+
+// Behind most names no list begins, and then nothing is built.
+#[tactic(auto, using(cxx_grammar::proofs::Looks::name_alone))]
+fn name_rest<D: Deeper>(
+    reader: &Reader<'_, D>,
+    start: u32,
+    name: NameTree,
+    at: u32,
+) -> Result<(Expr, u32), ExprFault>
+    requires { D.ready reader.now.deeper reader.now.tokens.now reader.now.level }
+    ensures { Gives (spec.name_rest reader.now.tokens.now (read reader.now.tokens.now reader.now.level) start name at) result }
+{
+    if sees(reader.tokens, LEFT_BRACE, at) {
+        name_with_list(reader, start, name, at)
+    } else {
+        Ok((Expr::Name(name), at))
+    }
 }
 
 #[tactic(auto, unfolding(cxx_grammar::specs::Joined::named_rest))]

@@ -1,9 +1,10 @@
 //! Postfix expressions ([expr.post]).
 
+ghost use Rattle.std.specs.Prelude.{◌≡◌};
 ghost use Rattle.cxx_grammar.specs.Joined as joined;
 ghost use Rattle.cxx_grammar.specs.Postfixes as spec;
 ghost use Rattle.cxx_grammar.specs.Read.{read};
-ghost use Rattle.cxx_reading.specs.Reading.{Gives};
+ghost use Rattle.cxx_reading.specs.Reading.{Gives, kind};
 
 use crate::made;
 use crate::primaries::primary;
@@ -112,8 +113,10 @@ fn suffix<D: Deeper>(reader: &Reader<'_, D>, start: u32) -> Result<(Suffix, u32)
                 call_suffix(reader, start)
             } else if mark == LEFT_BRACKET {
                 subscript_suffix(reader, start)
-            } else {
+            } else if mark == DOT || mark == ARROW {
                 any_member(reader, start)
+            } else {
+                Err(ExprFault::S1)
             }
         }
         Some(Seen::Identifier) => Err(ExprFault::S1),
@@ -143,10 +146,21 @@ fn suffixes<D: Deeper>(
     )
 }
 
-/// The rest of a postfix expression that began at `start` with this primary expression.
+// Whether a suffix may begin there.
+fn begins_suffix(tokens: &Tokens, at: u32) -> bool
+    ensures { result ≡ joined.begins_suffix (kind tokens.now at) }
+{
+    match kind_at(tokens, at) {
+        Some(Seen::Punctuator(mark)) => {
+            mark == LEFT_PAREN || mark == LEFT_BRACKET || mark == DOT || mark == ARROW
+        }
+        _ => false,
+    }
+}
+
 #[inline(never)]
 #[tactic(auto, unfolding(cxx_grammar::specs::Joined::postfix_from))]
-pub fn postfix_from<D: Deeper>(
+fn with_suffixes<D: Deeper>(
     reader: &Reader<'_, D>,
     start: u32,
     x: Expr,
@@ -158,6 +172,25 @@ pub fn postfix_from<D: Deeper>(
     let (found, end) = suffixes(reader, Items::new(reader.alloc), at)?;
     let span = span(reader.tokens, start, end);
     Ok((made::postfix(reader.alloc, x, found, span)?, end))
+}
+
+/// The rest of a postfix expression that began at `start` with this primary expression. Behind most operands no suffix begins, and
+/// then nothing is built.
+#[tactic(auto, using(cxx_grammar::proofs::Looks::no_suffixes))]
+pub fn postfix_from<D: Deeper>(
+    reader: &Reader<'_, D>,
+    start: u32,
+    x: Expr,
+    at: u32,
+) -> Result<(Expr, u32), ExprFault>
+    requires { D.ready reader.now.deeper reader.now.tokens.now reader.now.level }
+    ensures { Gives (joined.postfix_from reader.now.tokens.now (read reader.now.tokens.now reader.now.level) start x at) result }
+{
+    if begins_suffix(reader.tokens, at) {
+        with_suffixes(reader, start, x, at)
+    } else {
+        Ok((x, at))
+    }
 }
 
 /// A postfix expression, as the grammar says.

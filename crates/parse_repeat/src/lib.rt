@@ -7,4 +7,4 @@ mod part;
 
 pub use here::Here;
 pub use list::{comma_list, comma_list_if_any, list_if_any, many};
-pub use part::{Identifiers, Part, boxed_if_any, optional, or_empty};
+pub use part::{Identifiers, Part, boxed_if_any, optional};

@@ -1,12 +1,13 @@
 //! Lists of parts.
 
-ghost use Rattle.cxx_reading.specs.Reading.{Gives, if_any};
+ghost use Rattle.cxx_reading.specs.Reading.{Gives};
+ghost use Rattle.cxx_reading.specs.Reading as reading;
 ghost use Rattle.cxx_grammar.specs.Sequences as spec;
 ghost use Rattle.parse_repeat.specs.Lists as lists;
 
 use crate::part::Part;
 use containers::Items;
-use cxx_reading::{ExprFault, expect, left, push, single};
+use cxx_reading::{ExprFault, expect, if_any, left, push, single};
 use cxx_tokens::Tokens;
 use cxx_tokens::mark::COMMA;
 use std::alloc::Global;
@@ -37,36 +38,24 @@ pub fn many<P: Part>(
     Ok((found, at))
 }
 
-fn next<P: Part>(tokens: &Tokens, part: &P, at: u32) -> Result<(P::Tree, u32), ExprFault>
-    requires { P.can part.now }
-    ensures { Gives (spec.next_of tokens.now (P.part part.now) at) result }
-{
-    let at = expect(tokens, COMMA, at)?;
-    part.read(at)
+// A part with a comma before it.
+#[derive(Clone, Copy)]
+struct BehindComma<'a, P> {
+    tokens: &'a Tokens,
+    part: &'a P,
 }
 
-#[tactic(auto, using(cxx_reading::proofs::Turns::loops))]
-fn behind_commas<P: Part>(
-    tokens: &Tokens,
-    part: &P,
-    mut found: Items<P::Tree>,
-    mut at: u32,
-) -> Result<(Items<P::Tree>, u32), ExprFault>
-    requires { P.can part.now }
-    ensures { Gives (spec.many tokens.now (spec.next_of tokens.now (P.part part.now)) found at) result }
-{
-    for _turn in 0..left(tokens, at) {
-        match next(tokens, part, at) {
-            Ok((x, after)) => {
-                found.push(x)?;
-                at = after;
-            }
-            Err(ExprFault::S1) => return Ok((found, at)),
-            Err(ExprFault::S2) => return Err(ExprFault::S2),
-            Err(ExprFault::Memory) => return Err(ExprFault::Memory),
-        }
+impl<P: Part> Part for BehindComma<'_, P> {
+    type Tree = P::Tree;
+
+    ghost can = { λ p. P.can p.part.now };
+
+    ghost part = { λ p. spec.next_of p.tokens.now (P.part p.part.now) };
+
+    fn read(&self, at: u32) -> Result<(P::Tree, u32), ExprFault> {
+        let at = expect(self.tokens, COMMA, at)?;
+        self.part.read(at)
     }
-    Ok((found, at))
 }
 
 /// Parts with commas between them, at least one.
@@ -81,11 +70,11 @@ pub fn comma_list<P: Part>(
 {
     let (first, at) = part.read(at)?;
     let found = single(alloc, first)?;
-    behind_commas(tokens, part, found, at)
+    many(alloc, tokens, &BehindComma { tokens, part }, found, at)
 }
 
 /// The same, or none.
-#[tactic(auto, unfolding(cxx_reading::specs::Reading::if_any))]
+#[tactic(auto, unfolding(cxx_reading::specs::Reading::if_any), using(cxx_reading::proofs::Answers::empty_left))]
 pub fn comma_list_if_any<P: Part>(
     alloc: Global,
     tokens: &Tokens,
@@ -93,14 +82,9 @@ pub fn comma_list_if_any<P: Part>(
     at: u32,
 ) -> Result<(Items<P::Tree>, u32), ExprFault>
     requires { P.can part.now }
-    ensures { Gives (if_any (lists.comma_list tokens.now (P.part part.now)) at) result }
+    ensures { Gives (reading.if_any (lists.comma_list tokens.now (P.part part.now)) at) result }
 {
-    match comma_list(alloc, tokens, part, at) {
-        Ok(found) => Ok(found),
-        Err(ExprFault::S1) => Ok((Items::new(alloc), at)),
-        Err(ExprFault::S2) => Err(ExprFault::S2),
-        Err(ExprFault::Memory) => Err(ExprFault::Memory),
-    }
+    if_any(alloc, comma_list(alloc, tokens, part, at), at)
 }
 
 fn list<P: Part>(
@@ -118,7 +102,7 @@ fn list<P: Part>(
 }
 
 /// Parts one after the other, or none. The first is always asked for.
-#[tactic(auto, unfolding(cxx_reading::specs::Reading::if_any))]
+#[tactic(auto, unfolding(cxx_reading::specs::Reading::if_any), using(cxx_reading::proofs::Answers::empty_left))]
 pub fn list_if_any<P: Part>(
     alloc: Global,
     tokens: &Tokens,
@@ -126,12 +110,7 @@ pub fn list_if_any<P: Part>(
     at: u32,
 ) -> Result<(Items<P::Tree>, u32), ExprFault>
     requires { P.can part.now }
-    ensures { Gives (if_any (lists.list tokens.now (P.part part.now)) at) result }
+    ensures { Gives (reading.if_any (lists.list tokens.now (P.part part.now)) at) result }
 {
-    match list(alloc, tokens, part, at) {
-        Ok(found) => Ok(found),
-        Err(ExprFault::S1) => Ok((Items::new(alloc), at)),
-        Err(ExprFault::S2) => Err(ExprFault::S2),
-        Err(ExprFault::Memory) => Err(ExprFault::Memory),
-    }
+    if_any(alloc, list(alloc, tokens, part, at), at)
 }

@@ -2,9 +2,8 @@
 
 ghost use Rattle.cxx_reading.specs.Reading.{Rule, Gives};
 ghost use Rattle.cxx_reading.specs.Reading as reading;
-ghost use Rattle.parse_repeat.specs.Lists.{Missing};
 
-use containers::{Boxed, Items};
+use containers::Boxed;
 use cxx_reading::{ExprFault, identifier};
 use cxx_tokens::Tokens;
 use cxx_tree::Identifier;
@@ -25,17 +24,12 @@ pub trait Part {
 }
 
 /// The part, where it is there.
-#[tactic(auto, unfolding(cxx_reading::specs::Reading::optional))]
+#[tactic(auto, unfolding(cxx_reading::specs::Reading::optional), using(cxx_reading::proofs::Answers::none_left))]
 pub fn optional<P: Part>(part: &P, at: u32) -> Result<(Option<P::Tree>, u32), ExprFault>
     requires { P.can part.now }
     ensures { Gives (reading.optional (P.part part.now) at) result }
 {
-    match part.read(at) {
-        Ok((x, end)) => Ok((Some(x), end)),
-        Err(ExprFault::S1) => Ok((None, at)),
-        Err(ExprFault::S2) => Err(ExprFault::S2),
-        Err(ExprFault::Memory) => Err(ExprFault::Memory),
-    }
+    cxx_reading::optional(part.read(at), at)
 }
 
 /// The same in its box.
@@ -69,21 +63,5 @@ impl Part for Identifiers<'_> {
 
     fn read(&self, at: u32) -> Result<(Identifier, u32), ExprFault> {
         identifier(self.0, at)
-    }
-}
-
-/// What was read, or the empty list where nothing began at this token.
-pub fn or_empty<T: Drop>(
-    alloc: Global,
-    found: Result<(Items<T>, u32), ExprFault>,
-    at: u32,
-) -> Result<(Items<T>, u32), ExprFault>
-    ensures { Missing found at result }
-{
-    match found {
-        Ok(found) => Ok(found),
-        Err(ExprFault::S1) => Ok((Items::new(alloc), at)),
-        Err(ExprFault::S2) => Err(ExprFault::S2),
-        Err(ExprFault::Memory) => Err(ExprFault::Memory),
     }
 }

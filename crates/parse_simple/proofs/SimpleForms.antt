@@ -1,6 +1,6 @@
 -- Statements that begin with neither a word nor a mark of their own: the declaration of a local variable, an assignment or an
 -- expression, of which the last two share their first unary expression; and where none of them begins.
-use Rattle.std.proofs.Common.{◌≡◌, ℕ, ◌+◌, ◌≤◌, Bool, true, false, if◌then◌else◌, ◌==◌, Option, Some, None, refl, ◌∙◌, arith}
+use Rattle.std.proofs.Common.{◌≡◌, ℕ, ◌+◌, ◌≤◌, Bool, true, false, if◌then◌else◌, ◌==◌, Some, refl, ◌∙◌}
 use Rattle.std.proofs.lemmas.Bool.{eqb-false}
 use Rattle.cxx_base.specs.declared.place.Span.{Span}
 use Rattle.cxx_tree.specs.declared.expr.Expr.{Expr}
@@ -9,7 +9,6 @@ use Rattle.cxx_tree.specs.declared.stmt.Stmt.TheVariants as stmt-of
 use Rattle.cxx_tokens.specs.declared.token.Tokens.{Tokens}
 use Rattle.cxx_tokens.specs.declared.mark.TheConstants as mark
 use Rattle.cxx_tokens.specs.declared.keyword.TheConstants as keyword
-use Rattle.cxx_reading.specs.declared.seen.Seen.{Seen}
 use Rattle.cxx_reading.specs.declared.seen.Seen.TheVariants.{Word, Punctuator}
 use Rattle.cxx_reading.specs.Reading.{End, Tree, No, Nothing, and_then, longer, kind, span, punctuator}
 use Rattle.cxx_reading.proofs.Starts.{longer_nothing, no_punctuator_at}

@@ -1,6 +1,6 @@
 -- Statements that begin with neither a word nor a mark of their own, as the parser reads them. Nobody need believe this file: in
 -- proofs/ they are shown to give what the grammar's own forms give.
-use Rattle.std.specs.Prelude.{ℕ, Bool, true, false, if◌then◌else◌}
+use Rattle.std.specs.Prelude.{ℕ, if◌then◌else◌}
 use Rattle.cxx_base.specs.declared.place.Span.{Span}
 use Rattle.cxx_tree.specs.declared.stmt.ForStep.{ForStep}
 use Rattle.cxx_tree.specs.declared.stmt.ForStep.TheVariants as for-step-of

@@ -1,5 +1,5 @@
 -- Statements with braces of their own, and those without, by their first token.
-use Rattle.std.proofs.Common.{◌≡◌, ℕ, ◌+◌, ◌≤◌, Bool, true, false, ◌||◌, if◌then◌else◌, ◌==◌, Option, Some, None, refl, ap, subst, sym, ◌∙◌}
+use Rattle.std.proofs.Common.{◌≡◌, ℕ, ◌+◌, ◌≤◌, Bool, true, false, ◌||◌, ◌==◌, Option, Some, None, refl, subst, sym}
 use Rattle.std.specs.Option.{is_some}
 use Rattle.std.proofs.lemmas.Bool.{eqb-true}
 use Rattle.cxx_tree.specs.declared.decl.Member.{Member}
@@ -9,11 +9,11 @@ use Rattle.cxx_tokens.specs.declared.mark.TheConstants as mark
 use Rattle.cxx_tokens.specs.declared.keyword.TheConstants as keyword
 use Rattle.cxx_reading.specs.declared.seen.Seen.{Seen}
 use Rattle.cxx_reading.specs.declared.seen.Seen.TheVariants.{Identifier, Integer, Character, Text, Word, Punctuator}
-use Rattle.cxx_reading.specs.Reading.{No, Nothing, Rule, longer, kind, is_punctuator, is_word}
+use Rattle.cxx_reading.specs.Reading.{No, Nothing, Rule, kind, is_punctuator, is_word}
 use Rattle.cxx_reading.proofs.Starts.{or_left, or_right, longer_nothing, no_punctuator, no_word}
 use Rattle.cxx_grammar.specs.declared.within.Within.{Within}
 use Rattle.cxx_grammar.specs.Nests.{Nests, of_block}
-use Rattle.cxx_grammar.specs.Declarations.{body, block, key_of_word, key}
+use Rattle.cxx_grammar.specs.Declarations.{body, block, key_of_word}
 use Rattle.cxx_grammar.specs.Classes.{class_declared, class_defined, class, member}
 use Rattle.cxx_grammar.specs.Statements.{body_form, class_form, block_form, bracketed, other_stmt, stmt, sub}
 use Rattle.parse_class.proofs.Nothing.{no_key}

@@ -1,6 +1,5 @@
 -- `if` and `while` share the form of their conditions.
-use Rattle.std.proofs.Common.{◌≡◌, ℕ, refl, ap}
-use Rattle.cxx_tree.specs.declared.stmt.Stmt.{Stmt}
+use Rattle.std.proofs.Common.{◌≡◌, ℕ}
 use Rattle.cxx_tokens.specs.declared.token.Tokens.{Tokens}
 use Rattle.cxx_reading.proofs.Factor.{assoc}
 use Rattle.cxx_grammar.specs.declared.within.Within.{Within}

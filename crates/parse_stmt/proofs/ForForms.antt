@@ -1,10 +1,7 @@
 -- The two forms of `for` share the beginning of their heads.
-use Rattle.std.proofs.Common.{◌≡◌, ℕ, ◌+◌, ◌≤◌, Bool, true, false, if◌then◌else◌, ◌==◌, List, [], Option, Some, None, refl, ap, ◌∙◌, sym, arith}
-use Rattle.cxx_base.specs.declared.place.Span.{Span}
+use Rattle.std.proofs.Common.{◌≡◌, ℕ, ◌+◌, ◌≤◌, Bool, true, false, [], Some, refl, ◌∙◌, sym, arith}
 use Rattle.cxx_tree.specs.declared.identifier.Identifier.{Identifier}
-use Rattle.cxx_tree.specs.declared.expr.Expr.{Expr}
 use Rattle.cxx_tree.specs.declared.expr.TypeTree.{TypeTree}
-use Rattle.cxx_tree.specs.declared.stmt.LocalTree.{LocalTree}
 use Rattle.cxx_tree.specs.declared.stmt.ForInit.{ForInit}
 use Rattle.cxx_tree.specs.declared.stmt.ForRange.{ForRange}
 use Rattle.cxx_tree.specs.declared.stmt.ForInit.TheVariants as for-init-of
@@ -13,9 +10,8 @@ use Rattle.cxx_tree.specs.declared.stmt.Stmt.TheVariants as stmt-of
 use Rattle.cxx_tokens.specs.declared.token.Tokens.{Tokens}
 use Rattle.cxx_tokens.specs.declared.mark.TheConstants as mark
 use Rattle.cxx_tokens.specs.declared.keyword.TheConstants as keyword
-use Rattle.cxx_reading.specs.declared.seen.Seen.{Seen}
 use Rattle.cxx_reading.specs.declared.seen.Seen.TheVariants.{Word, Punctuator}
-use Rattle.cxx_reading.specs.Reading.{End, Tree, No, Nothing, TooDeep, Rule, and_then, longer, pure, kind, span, is_punctuator, is_word, punctuator, word, identifier, present, optional, turns, left}
+use Rattle.cxx_reading.specs.Reading.{End, Tree, No, Nothing, TooDeep, Rule, and_then, longer, kind, span, is_punctuator, is_word, punctuator, word, identifier, present, optional, left}
 use Rattle.cxx_reading.proofs.Starts.{is_false, is_that_punctuator, is_that_word, longer_nothing, no_punctuator, no_punctuator_at, no_word, word_there, optional_none}
 use Rattle.cxx_reading.proofs.Factor.{assoc, pointwise, factor}
 use Rattle.cxx_reading.proofs.Turns.{turns_none}
@@ -24,7 +20,7 @@ use Rattle.cxx_grammar.specs.Sequences.{with_next}
 use Rattle.cxx_grammar.specs.Lists.{braced}
 use Rattle.cxx_grammar.specs.Read.{read}
 use Rattle.cxx_grammar.specs.Nests.{Nests, looping}
-use Rattle.cxx_grammar.specs.Locals.{begins_local, bound, bounds, init_equal, init_equal_braced, init_braced, init, local, assign}
+use Rattle.cxx_grammar.specs.Locals.{begins_local, bound, bounds, init_equal, init_equal_braced, init_braced, init, local}
 use Rattle.cxx_grammar.specs.Statements.{for_local, for_assign, for_empty, for_init, for_step, for_form, range, range_for_form}
 use Rattle.cxx_grammar.proofs.Begins.{no_type, no_braced}
 use Rattle.cxx_grammar.proofs.Levels.{last_type_tree, at_type_tree, at_braced}

@@ -1,25 +1,25 @@
 -- At most one of the forms of a statement without braces of its own begins with a token, or they are read as one.
-use Rattle.std.proofs.Common.{◌≡◌, ℕ, ◌+◌, ◌≤◌, Bool, true, false, ◌||◌, ◌==◌, Option, Some, None, refl, ap, ◌∙◌, sym, arith}
+use Rattle.std.proofs.Common.{◌≡◌, ℕ, ◌≤◌, Bool, true, false, Option, Some, None, refl, ◌∙◌}
 use Rattle.std.proofs.lemmas.Bool.{ne_eqb}
 use Rattle.cxx_tokens.specs.declared.token.Tokens.{Tokens}
 use Rattle.cxx_tokens.specs.declared.mark.TheConstants as mark
 use Rattle.cxx_tokens.specs.declared.keyword.TheConstants as keyword
 use Rattle.cxx_reading.specs.declared.seen.Seen.{Seen}
 use Rattle.cxx_reading.specs.declared.seen.Seen.TheVariants.{Identifier, Integer, Character, Text, Word, Punctuator}
-use Rattle.cxx_reading.specs.Reading.{End, Tree, No, Nothing, Rule, and_then, longer, kind, is_punctuator, is_word}
+use Rattle.cxx_reading.specs.Reading.{No, Nothing, longer, kind, is_punctuator, is_word}
 use Rattle.cxx_reading.proofs.Starts.{longer_nothing, no_punctuator_at, no_word_at}
 use Rattle.cxx_grammar.specs.declared.within.Within.{Within}
 use Rattle.cxx_grammar.specs.Read.{read}
 use Rattle.cxx_grammar.specs.Nests.{Nests}
 use Rattle.cxx_grammar.specs.Locals.{begins_local, assert, alias}
-use Rattle.cxx_grammar.specs.Statements.{empty_form, assert_form, alias_form, local_form, assign_form, expr_form, if_form, while_form, for_form, range_for_form, return_form, break_form, continue_form, other_stmt}
+use Rattle.cxx_grammar.specs.Statements.{empty_form, assert_form, alias_form, if_form, while_form, for_form, range_for_form, return_form, break_form, continue_form, other_stmt}
 use Rattle.cxx_grammar.proofs.Begins.{no_any_name}
 use Rattle.parse_local.proofs.Begin.{begins_at_punctuator}
 use Rattle.parse_assign.specs.Joined.{is_step, closed, closed_placed}
 use Rattle.parse_assign.proofs.Assignments.{no_unary_at_mark}
 use Rattle.parse_assign.proofs.Expressions.{below, before}
 use Rattle.parse_simple.specs.Joined.{worked, simple}
-use Rattle.parse_simple.proofs.SimpleForms.{Barren, barren_if, barren_while, barren_for, barren_return, barren_break, barren_continue, barren_using, barren_static_assert, barren_struct, barren_class, barren_consteval, local_none, assign_none, expr_none, local_none_at_semicolon, assign_none_at_semicolon, expr_none_at_semicolon, simple_is}
+use Rattle.parse_simple.proofs.SimpleForms.{barren_if, barren_while, barren_for, barren_return, barren_break, barren_continue, barren_using, barren_static_assert, barren_struct, barren_class, barren_consteval, local_none, assign_none, expr_none, local_none_at_semicolon, assign_none_at_semicolon, expr_none_at_semicolon, simple_is}
 
 module _ (tokens : Tokens) (level in_parens : ℕ) (inner : Nests) (within : Within) (i : ℕ) where
   no_empty_form : (k : Option Seen) → kind tokens i ≡ k → is_punctuator mark.SEMICOLON k ≡ false → empty_form tokens i ≡ No Nothing

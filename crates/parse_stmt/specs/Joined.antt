@@ -1,6 +1,6 @@
 -- Statements that share a beginning, each read as one, as the parser reads them. Nobody need believe this file: in proofs/ each is
 -- shown to give what the grammar's own forms give.
-use Rattle.std.specs.Prelude.{ℕ, ◌+◌, Bool, true, false, ◌||◌, if◌then◌else◌, ◌==◌, Option, Some, None}
+use Rattle.std.specs.Prelude.{ℕ, Bool, false, ◌||◌, if◌then◌else◌, ◌==◌, Option, Some}
 use Rattle.cxx_tree.specs.declared.expr.Expr.{Expr}
 use Rattle.cxx_tree.specs.declared.decl.Member.{Member}
 use Rattle.cxx_tree.specs.declared.stmt.Stmt.{Stmt}

@@ -1,3 +1,4 @@
+pub mod Accepts
 pub mod Distinct
 pub mod Forms
 pub mod Lines
@@ -6,3 +7,4 @@ pub mod Refusals
 pub mod Rows
 pub mod Trees
 pub mod WholeSource
+pub mod Named

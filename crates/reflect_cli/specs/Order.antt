@@ -1,5 +1,6 @@
 -- Translation in order: each piece has the outcome of its declaration.
-use Rattle.std.specs.Prelude.{ℕ, [], Ok, Err}
+use Rattle.std.specs.Prelude.{ℕ, ◌<◌, List, [], length, All, Ok, Err}
+use Rattle.cxx_base.specs.Texts.{Text}
 use Rattle.cxx_base.specs.Refusals.{met, notes_of}
 use Rattle.cxx_base.specs.declared.place.Place.{Place}
 use Rattle.cxx_base.specs.declared.refusal.Refusal.{Refusal}
@@ -22,6 +23,10 @@ detail_of ShiftCount = 3
 -- an operation that is refused, in an initializer that begins at the place
 abbrev pub refusal_of : Place → Operation → Refusal
 refusal_of place refused = met V1 (detail_of refused.fault) place refused.place (notes_of [])
+
+-- each declaration has a name among these
+abbrev pub AreNamed : List Text → List Declaration → Type 0
+AreNamed names declarations = All (λ declaration. declaration.name.0 < length names) declarations
 
 abbrev pub outcome_by : Declaration → Evaluated → Outcome
 outcome_by declaration (Ok value) = Constant declaration.name value

@@ -1,9 +1,9 @@
 -- The program of a source text, or why it has none.
-use Rattle.std.specs.Prelude.{◌≡◌, refl, ℕ, ◌^◌, Bool, true, false, nat_lt, if◌then◌else◌, List, length, Option, None, Some, Result, Ok, Err, slice_get}
-use Rattle.std.proofs.lemmas.Bool.{ltb-true}
+use Rattle.std.specs.Prelude.{◌≡◌, ◌≤◌, refl, ℕ, if◌then◌else◌, List, length, Option, None, Some, Result, Ok, Err, slice_get}
 use Rattle.cxx_base.specs.Library.{library_names}
 use Rattle.cxx_base.specs.Refusals.{whole}
 use Rattle.cxx_base.specs.Texts.{Text}
+use Rattle.cxx_base.specs.declared.limits.TheConstants.{MAX_SOURCE}
 use Rattle.cxx_base.specs.declared.place.Place.{Place}
 use Rattle.cxx_base.specs.declared.code.Code.{Code}
 use Rattle.cxx_base.specs.declared.code.Code.TheVariants as code
@@ -14,11 +14,11 @@ use Rattle.cxx_tokens.specs.Lex.{Lexed, lex}
 use Rattle.reflect_cli.specs.Form.{is_in_form}
 use Rattle.cxx_grammar.specs.Units.{Derived, Derives, Refused, unit}
 use Rattle.cxx_reading.specs.Reading.{Nothing, TooDeep, place_of}
-use Rattle.cxx_tokens.specs.declared.token.Token.{Token}
 use Rattle.cxx_tokens.specs.declared.token.Tokens.{Tokens}
 use Rattle.reflect_cli.specs.Accepted.{declarations}
 use Rattle.reflect_cli.specs.declared.form_tree.Declaration.{Declaration}
 use Rattle.reflect_cli.specs.declared.program.Program.{Program}
+use Rattle.cxx_tokens.proofs.FewTokens.{is_short}
 
 -- a refusal of the source as a whole, at its start
 abbrev pub source_refusal : Code → Refusal
@@ -48,21 +48,13 @@ parsed_by names tokens (Refused TooDeep i) = Err (whole code.S2 (place_at tokens
 abbrev pub parsed : List Text → Tokens → Result Program Refusal
 parsed names tokens = parsed_by names tokens (unit tokens)
 
--- The tokens with the end of their text, where a `u32` numbers them.
-abbrev pub numbered : (list : List Token) → Place → (is_short : Bool) → nat_lt (length list) (2 ^ 32) ≡ is_short → Option Tokens
-numbered list end true short = Some (record { list = list; end = end; short = ltb-true (length list) (2 ^ 32) short })
-numbered list end false short = None
+-- by the tokens of a text that is not too long: it has fewer than a `u32` numbers
+abbrev pub program_by : (text : Text) → length text ≤ MAX_SOURCE → (lexed : Result Lexed Fault) → lex library_names text ≡ lexed → Result Program Refusal
+program_by text fits (Ok lexed) e =
+    parsed lexed.names (record { list = lexed.tokens; end = lexed.end; short = is_short library_names text fits lexed e })
+program_by text fits (Err fault) e = Err (text_refusal fault)
 
--- A text that is not too long has no more tokens than bytes, so the first line is for nothing but completeness.
-abbrev pub parsed_if_any : List Text → Option Tokens → Result Program Refusal
-parsed_if_any names None = Err (source_refusal code.L6)
-parsed_if_any names (Some tokens) = parsed names tokens
-
-abbrev pub program_by : Result Lexed Fault → Result Program Refusal
-program_by (Ok lexed) = parsed_if_any lexed.names (numbered lexed.tokens lexed.end (nat_lt (length lexed.tokens) (2 ^ 32)) refl)
-program_by (Err fault) = Err (text_refusal fault)
-
--- The names and declarations of a text of the accepted form. A text without tokens is refused as they are, and one of which the
--- grammar derives no unit is refused S1 or S2 where it says. A unit that is not of the form is refused T8 at the start.
-unfoldable pub program_of : Text → Result Program Refusal
-program_of text = program_by (lex library_names text)
+-- The names and declarations of a text of the accepted form that is not too long. A text without tokens is refused as they are, and one
+-- of which the grammar derives no unit is refused S1 or S2 where it says. A unit that is not of the form is refused T8 at the start.
+unfoldable pub program_of : (text : Text) → length text ≤ MAX_SOURCE → Result Program Refusal
+program_of text fits = program_by text fits (lex library_names text) refl

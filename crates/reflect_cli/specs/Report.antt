@@ -1,5 +1,5 @@
 -- The lines of the report. Each ends with a line feed, which is 10.
-use Rattle.std.specs.Prelude.{ℕ, ℤ, Bool, true, false, List, [], ◌++◌, length, Option, None, Some, slice_get, unwrap_or, codes, decimal}
+use Rattle.std.specs.Prelude.{ℕ, ◌<◌, ℤ, Bool, true, false, List, [], ◌++◌, length, Option, None, Some, slice_get, unwrap_or, codes, decimal}
 use Rattle.std.specs.Fmt.{signed_decimal}
 use Rattle.std.specs.List.{flat_map, count_by}
 use Rattle.cxx_base.specs.Texts.{Text}
@@ -47,6 +47,11 @@ constant_line names name value = codes "const " ++ name_text names name ++ codes
 abbrev pub outcome_line : List Text → Outcome → Text
 outcome_line names (Constant name value) = constant_line names name value
 outcome_line names (Refused refusal) = refusal_line refusal
+
+-- a constant has a name among these
+abbrev pub IsNamed : List Text → Outcome → Type 0
+IsNamed names (Constant name value) = name.0 < length names
+IsNamed names (Refused refusal) = Unit {0}
 
 abbrev pub is_refused : Outcome → Bool
 is_refused (Constant name value) = false

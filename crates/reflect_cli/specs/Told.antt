@@ -1,7 +1,8 @@
 -- What the program tells: the full text and the status, from the words and the bytes of the source.
-use Rattle.std.specs.Prelude.{ℕ, Bool, false, ◌==◌, nat_lt, if◌then◌else◌, List, [], ◌∷◌, length, map, Option, None, Some, Result, Ok, Err, codes}
+use Rattle.std.specs.Prelude.{◌≡◌, refl, ℕ, Bool, true, false, ◌==◌, nat_lt, if◌then◌else◌, List, [], ◌∷◌, length, map, Option, None, Some, Result, Ok, Err, codes}
 use Rattle.std.specs.List.{count_by}
 use Rattle.std.specs.Str.{bytes_eq}
+use Rattle.std.proofs.lemmas.Bool.{ltb-false}
 use Rattle.cxx_base.specs.Texts.{Text}
 use Rattle.cxx_base.specs.declared.code.Code.TheVariants.{L6}
 use Rattle.cxx_base.specs.declared.limits.TheConstants.{MAX_SOURCE}
@@ -29,9 +30,14 @@ abbrev pub answer_by : Result Program Refusal → Answer
 answer_by (Err refusal) = refused refusal
 answer_by (Ok program) = translated program.names (map outcome_of program.declarations)
 
+-- by whether it is too long
+abbrev pub report_by : (bytes : Text) (is_long : Bool) → nat_lt MAX_SOURCE (length bytes) ≡ is_long → Answer
+report_by bytes true e = refused (source_refusal L6)
+report_by bytes false e = answer_by (program_of bytes (ltb-false MAX_SOURCE (length bytes) e))
+
 -- the report of a source and its status
 unfoldable pub report_of : Text → Answer
-report_of bytes = if nat_lt MAX_SOURCE (length bytes) then refused (source_refusal L6) else answer_by (program_of bytes)
+report_of bytes = report_by bytes (nat_lt MAX_SOURCE (length bytes)) refl
 
 -- the one accepted list of words
 abbrev pub is_in_grammar : List Text → Bool

@@ -1,17 +1,17 @@
 //! From parsed trees to the declarations of the accepted form.
 
-ghost use Rattle.std.specs.Prelude.{◌≡◌, [], IfOk, Some};
+ghost use Rattle.std.specs.Prelude.{◌≡◌, if◌then◌else◌, [], IfOk, Some, None};
 ghost use Rattle.cxx_tree.specs.declared.decl.Item.TheVariants as item_of;
 ghost use Rattle.reflect_cli.specs.Accepted as spec;
 
 use crate::form_tree::{Arithmetic, Chain, Declaration, Link, Literal, Product, Sum};
 use containers::{Boxed, Items};
 use cxx_base::{IntKind, IntOp, Memory, Place};
-use cxx_reading::push;
 use cxx_tree::{
     BasicTree, BinaryOp, Decl, Evaluated, Expr, Fund, InitTree, IntegerLiteral, Item, Operation,
     Specifiers, TypeTree, VariableTree,
 };
+use parse_decl::Taker;
 use std::alloc::Global;
 
 fn int_literal(place: Place, decimal: bool, value: u64) -> Option<Literal>
@@ -83,11 +83,11 @@ fn multiplicative_links(
 ) -> Result<Option<Items<Link<Literal>>>, Memory>
     ensures { IfOk result (λ found. found ≡ spec.all_of (spec.link spec.multiplicative spec.literal) [] operations.now) }
 {
-    let mut found = Items::new(alloc);
+    let mut found = Items::from_vec(Vec::with_capacity(alloc, operations.len())?);
     let mut rest = operations;
     while let Some((operation, more)) = rest.split_first() {
         match multiplicative_link(operation) {
-            Some(link) => push(alloc, &mut found, link)?,
+            Some(link) => found.push(link)?,
             None => return Ok(None),
         }
         rest = more;
@@ -146,11 +146,11 @@ fn additive_links(
 ) -> Result<Option<Items<Link<Product>>>, Memory>
     ensures { IfOk result (λ found. found ≡ spec.all_of (spec.link spec.additive spec.product) [] operations.now) }
 {
-    let mut found = Items::new(alloc);
+    let mut found = Items::from_vec(Vec::with_capacity(alloc, operations.len())?);
     let mut rest = operations;
     while let Some((operation, more)) = rest.split_first() {
         match additive_link(alloc, operation)? {
-            Some(link) => push(alloc, &mut found, link)?,
+            Some(link) => found.push(link)?,
             None => return Ok(None),
         }
         rest = more;
@@ -264,19 +264,68 @@ fn declaration(alloc: Global, item: &Item) -> Result<Option<Declaration>, Memory
     }
 }
 
-/// The declarations that the items of a unit are, or nothing where one of them is not `constexpr int NAME = SUM;`.
-#[tactic(auto, unfolding(crate::specs::Accepted::declarations))]
-pub fn declarations(alloc: Global, items: &[Item]) -> Result<Option<Items<Declaration>>, Memory>
-    ensures { IfOk result (λ found. found ≡ spec.declarations items.now) }
-{
-    let mut found = Items::new(alloc);
-    let mut rest = items;
-    while let Some((item, more)) = rest.split_first() {
-        match declaration(alloc, item)? {
-            Some(x) => found.push(x)?,
-            None => return Ok(None),
-        }
-        rest = more;
+/// The declarations of the items that were taken, as long as each is one.
+pub struct Accepting {
+    alloc: Global,
+    found: Items<Declaration>,
+    // Whether each item was a declaration; where one was not, no more are looked at.
+    is_accepted: bool,
+}
+
+impl Drop for Accepting {
+    fn drop(self) {
+        let Accepting {
+            alloc: _,
+            found: _,
+            is_accepted: _,
+        } = self;
     }
-    Ok(Some(found))
+}
+
+impl Accepting {
+    /// No items.
+    #[tactic(auto, unfolding(crate::specs::Accepted::declarations))]
+    pub fn new(alloc: Global) -> Accepting
+        ensures { spec.declarations [] ≡ (if result.is_accepted then Some result.found else None) }
+    {
+        Accepting {
+            alloc,
+            found: Items::new(alloc),
+            is_accepted: true,
+        }
+    }
+
+    /// The declarations that the items are.
+    pub fn into_found(self) -> Option<Items<Declaration>>
+        ensures { result ≡ (if self.is_accepted then Some self.found else None) }
+    {
+        let Accepting {
+            alloc: _,
+            found,
+            is_accepted,
+        } = self;
+        if is_accepted { Some(found) } else { None }
+    }
+}
+
+impl Taker for Accepting {
+    ghost took = { λ it items. spec.declarations items ≡ (if it.is_accepted then Some it.found else None) };
+
+    #[tactic(auto, using(crate::proofs::Accepts::one_more, crate::proofs::Accepts::no_more, crate::proofs::Accepts::stays_none))]
+    fn take(&mut self, item: Item) -> Result<(), Memory> {
+        if self.is_accepted {
+            match declaration(self.alloc, &item)? {
+                Some(x) => {
+                    self.found.push(x)?;
+                    Ok(())
+                }
+                None => {
+                    self.is_accepted = false;
+                    Ok(())
+                }
+            }
+        } else {
+            Ok(())
+        }
+    }
 }

@@ -1,9 +1,10 @@
 //! The full text that the program writes, and its status.
 
-ghost use Rattle.std.specs.Prelude.{◌≡◌, ◌≤◌, ◌++◌, Ok, IfOk, length, if◌then◌else◌};
+ghost use Rattle.std.specs.Prelude.{◌≡◌, ◌≤◌, ◌++◌, All, Ok, IfOk, length, if◌then◌else◌};
 ghost use Rattle.std.specs.List.{flat_map, count_by};
 ghost use Rattle.cxx_base.specs.declared.limits.TheConstants.{MAX_PIECES, MAX_SOURCE};
 ghost use Rattle.reflect_cli.specs.Answers.{IsTold};
+ghost use Rattle.reflect_cli.specs.Order.{AreNamed};
 ghost use Rattle.reflect_cli.specs.Report as report;
 ghost use Rattle.reflect_cli.specs.Told as spec;
 
@@ -51,8 +52,10 @@ pub fn refused(alloc: Global, refusal: Refusal) -> Result<Answer, Memory>
     })
 }
 
+#[tactic(auto, using(crate::proofs::Named::named_at))]
 fn append_outcomes(out: &mut Bytes, names: &Names, outcomes: &[Outcome]) -> Result<u32, Memory>
-    requires { length outcomes.now ≤ MAX_PIECES }
+    requires few { length outcomes.now ≤ MAX_PIECES }
+    requires named { All (report.IsNamed names.now) outcomes.now }
     ensures text { IfOk result (λ _. out.new ≡ out.old ++ flat_map (report.outcome_line names.now) outcomes.now) }
     ensures refused { IfOk result (λ n. n ≡ count_by report.is_refused outcomes.now) }
 {
@@ -67,7 +70,8 @@ fn append_outcomes(out: &mut Bytes, names: &Names, outcomes: &[Outcome]) -> Resu
 }
 
 fn translated(alloc: Global, names: &Names, outcomes: &[Outcome]) -> Result<Answer, Memory>
-    requires { length outcomes.now ≤ MAX_PIECES }
+    requires few { length outcomes.now ≤ MAX_PIECES }
+    requires named { All (report.IsNamed names.now) outcomes.now }
     ensures { IfOk result (IsTold (spec.translated names.now outcomes.now)) }
 {
     let mut text = Bytes::new(alloc);
@@ -79,8 +83,10 @@ fn translated(alloc: Global, names: &Names, outcomes: &[Outcome]) -> Result<Answ
     })
 }
 
+#[tactic(auto, using(crate::proofs::Named::outcomes_named))]
 fn translate(alloc: Global, program: &Program) -> Result<Answer, Memory>
-    requires { length program.now.declarations ≤ MAX_PIECES }
+    requires few { length program.now.declarations ≤ MAX_PIECES }
+    requires named { AreNamed program.now.names program.now.declarations }
     ensures { IfOk result (IsTold (spec.answer_by (Ok program.now))) }
 {
     let outcomes = translate_in_order(alloc, program.declarations.as_slice())?;
@@ -88,7 +94,7 @@ fn translate(alloc: Global, program: &Program) -> Result<Answer, Memory>
 }
 
 /// The answer to a source that is no longer than it may be.
-#[tactic(auto, unfolding(crate::specs::Told::report_of))]
+#[tactic(auto, using(crate::proofs::WholeSource::not_too_long))]
 pub fn answer_to(alloc: Global, bytes: &[u8]) -> Result<Answer, Memory>
     requires { length bytes.now ≤ MAX_SOURCE }
     ensures { IfOk result (IsTold (spec.report_of bytes.now)) }

@@ -1,20 +1,22 @@
 //! From bytes to a program.
 
-ghost use Rattle.std.specs.Prelude.{◌≡◌, ◌≤◌, IfOk, length};
+ghost use Rattle.std.specs.Prelude.{◌≡◌, ◌≤◌, All, IfOk, IfSome, length};
 ghost use Rattle.cxx_base.specs.declared.limits.TheConstants.{MAX_PIECES, MAX_SOURCE};
 ghost use Rattle.reflect_cli.specs.Accepted as accepted;
+ghost use Rattle.cxx_tokens.specs.Usable.{IsKnown};
 ghost use Rattle.reflect_cli.specs.Answers.{GivesProgram, fault_of, syntax_fault_of};
+ghost use Rattle.reflect_cli.specs.Order.{AreNamed};
 ghost use Rattle.reflect_cli.specs.Program as spec;
 
-use crate::accepted::declarations;
+use crate::accepted::Accepting;
 use crate::form::is_in_form;
 use crate::form_tree::Declaration;
 use containers::Items;
 use cxx_base::{Code, Memory, Names, Place, Refusal};
 use cxx_tokens::{LexFault, Tokens, tokens};
-use cxx_tree::Item;
-use parse_decl::{SyntaxFault, unit};
+use parse_decl::{SyntaxFault, unit_to};
 use std::alloc::Global;
+use tree_stands::names_have_texts;
 
 /// The names of a source, and its declarations.
 pub struct Program {
@@ -34,7 +36,9 @@ impl Drop for Program {
 /// Why a source has no program.
 #[derive(Clone, Copy, Debug, PartialEq, Eq)]
 pub enum ProgramFault {
+    /// The source as a whole is refused.
     Refused(Refusal),
+    /// No memory was found for the program.
     Memory,
 }
 
@@ -85,8 +89,10 @@ fn formed(
     names: Names,
     declarations: Items<Declaration>,
 ) -> Result<Program, ProgramFault>
+    requires { AreNamed names declarations }
     ensures program { GivesProgram (spec.formed names declarations) result }
     ensures few { IfOk result (λ program. length program.declarations ≤ MAX_PIECES) }
+    ensures named { IfOk result (λ program. AreNamed program.names program.declarations) }
 {
     if is_in_form(alloc, declarations.as_slice())? {
         Ok(Program {
@@ -98,23 +104,35 @@ fn formed(
     }
 }
 
-fn accepted(alloc: Global, names: Names, items: &[Item]) -> Result<Program, ProgramFault>
-    ensures program { GivesProgram (spec.formed_by names (accepted.declarations items.now)) result }
+fn accepted(
+    alloc: Global,
+    names: Names,
+    found: Option<Items<Declaration>>,
+) -> Result<Program, ProgramFault>
+    requires { IfSome found (AreNamed names) }
+    ensures program { GivesProgram (spec.formed_by names found) result }
     ensures few { IfOk result (λ program. length program.declarations ≤ MAX_PIECES) }
+    ensures named { IfOk result (λ program. AreNamed program.names program.declarations) }
 {
-    match declarations(alloc, items)? {
+    match found {
         Some(declarations) => formed(alloc, names, declarations),
         None => Err(ProgramFault::Refused(source_refusal(Code::T8))),
     }
 }
 
-#[tactic(auto, using(crate::proofs::Refusals::with_unit, crate::proofs::Refusals::without_unit))]
-fn parsed(alloc: Global, names: Names, tokens: &Tokens) -> Result<Program, ProgramFault>
-    ensures program { GivesProgram (spec.parsed names tokens.now) result }
+#[tactic(auto, using(crate::proofs::Refusals::with_unit, crate::proofs::Refusals::without_unit, crate::proofs::Named::found_named))]
+fn parsed(alloc: Global, names: Names, tokens: Tokens) -> Result<Program, ProgramFault>
+    requires { All (λ token. IsKnown names token.kind) tokens.list }
+    ensures program { GivesProgram (spec.parsed names tokens) result }
     ensures few { IfOk result (λ program. length program.declarations ≤ MAX_PIECES) }
+    ensures named { IfOk result (λ program. AreNamed program.names program.declarations) }
 {
-    match unit(alloc, tokens) {
-        Ok(unit) => accepted(alloc, names, unit.items.as_slice()),
+    names_have_texts(&tokens);
+    let mut taker = Accepting::new(alloc);
+    let read = unit_to(alloc, &tokens, &mut taker);
+    drop(tokens);
+    match read {
+        Ok(()) => accepted(alloc, names, taker.into_found()),
         Err(fault) => Err(syntax_fault_of(fault)),
     }
 }
@@ -125,12 +143,13 @@ fn parsed(alloc: Global, names: Names, tokens: &Tokens) -> Result<Program, Progr
 #[tactic(auto, using(crate::proofs::Refusals::with_tokens, crate::proofs::Refusals::without_tokens), unfolding(crate::specs::Program::program_of))]
 pub fn program_of(alloc: Global, bytes: &[u8]) -> Result<Program, ProgramFault>
     requires { length bytes.now ≤ MAX_SOURCE }
-    ensures program { GivesProgram (spec.program_of bytes.now) result }
+    ensures program { (fits : length bytes.now ≤ MAX_SOURCE) → GivesProgram (spec.program_of bytes.now fits) result }
     ensures few { IfOk result (λ program. length program.declarations ≤ MAX_PIECES) }
+    ensures named { IfOk result (λ program. AreNamed program.names program.declarations) }
 {
     let mut names = Names::of_source(alloc, bytes)?;
     match tokens(alloc, &mut names, bytes) {
-        Ok(tokens) => parsed(alloc, names, &tokens),
+        Ok(tokens) => parsed(alloc, names, tokens),
         Err(fault) => Err(fault_of(fault)),
     }
 }

@@ -1,6 +1,6 @@
 //! The lines of the report.
 
-ghost use Rattle.std.specs.Prelude.{◌≡◌, ◌++◌, OnOk, decimal};
+ghost use Rattle.std.specs.Prelude.{◌≡◌, ◌++◌, ◌<◌, OnOk, decimal, length};
 ghost use Rattle.std.specs.Fmt.{signed_decimal};
 ghost use Rattle.reflect_cli.specs.Report as spec;
 
@@ -86,17 +86,15 @@ pub fn append_refusal(out: &mut Bytes, refusal: &Refusal) -> Result<(), Memory>
 }
 
 fn name_text(names: &Names, name: Name) -> &str
+    requires { name.0 < length names.now }
     ensures { result.now ≡ spec.name_text names.now name }
 {
-    if name.0 < names.len() {
-        names.text(name)
-    } else {
-        ""
-    }
+    names.text(name)
 }
 
 #[tactic(auto, unfolding(crate::specs::Report::constant_line))]
 fn append_constant(out: &mut Bytes, names: &Names, name: Name, value: i128) -> Result<(), Memory>
+    requires { name.0 < length names.now }
     ensures { OnOk result (out.new ≡ out.old ++ spec.constant_line names.now name value) }
 {
     append_text(out, "const ")?;
@@ -106,8 +104,9 @@ fn append_constant(out: &mut Bytes, names: &Names, name: Name, value: i128) -> R
     append_text(out, "\n")
 }
 
-/// The lines of an outcome.
+/// The lines of an outcome, whose name is among these.
 pub fn append_outcome(out: &mut Bytes, names: &Names, outcome: &Outcome) -> Result<(), Memory>
+    requires { spec.IsNamed names.now outcome.now }
     ensures { OnOk result (out.new ≡ out.old ++ spec.outcome_line names.now outcome.now) }
 {
     match outcome {

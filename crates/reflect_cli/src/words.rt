@@ -6,6 +6,7 @@ ghost use Rattle.reflect_cli.specs.Told.{is_in_grammar};
 use cxx_base::Memory;
 use std::alloc::Global;
 use std::marker::Model;
+use thiserror::Error;
 
 /// A list of words. Contracts see the list of their texts.
 pub struct Words {
@@ -55,9 +56,10 @@ pub enum Command {
 }
 
 /// Why words ask for nothing.
-#[derive(Clone, Copy, Debug, PartialEq, Eq)]
+#[derive(Clone, Copy, Debug, PartialEq, Eq, Error)]
 pub enum WordFault {
     /// They are not in the grammar.
+    #[error("the words are not in the grammar")]
     Refused,
 }
 

@@ -1,6 +1,6 @@
 //! The answer to a row.
 
-use crate::plain::{layered, plain, show_layers};
+use crate::plain::{layer_of, layered, plain, show_layers};
 use crate::sizes::size_of_named;
 use cxx_tree::{CxxType, Layers};
 use cxx_type::types_are_sent_and_shared;
@@ -93,6 +93,16 @@ fn append_less(alloc: Global, out: &mut String, words: &str) -> Result<(), RowFa
     show_layers(out, less(layers, parsed::<u64>(n)?)?)
 }
 
+fn append_run(alloc: Global, out: &mut String, words: &str) -> Result<(), RowFault> {
+    let (n, rest) = cut(words);
+    let (word, rest) = cut(rest);
+    let Some(layer) = layer_of(word) else {
+        return Err(RowFault::Unread);
+    };
+    let layers = layered(alloc, 1, rest)?;
+    show_layers(out, layers.over_run(alloc, layer, parsed::<u64>(n)?)?)
+}
+
 fn append_shared(alloc: Global, out: &mut String, words: &str) -> Result<(), RowFault> {
     let (n, rest) = cut(words);
     let (times, rest) = cut(rest);
@@ -138,6 +148,7 @@ pub fn append_answer(alloc: Global, out: &mut String, line: &str) -> Result<(), 
         "alike" => append_alike(alloc, out, rest),
         "times" => append_times(alloc, out, rest),
         "less" => append_less(alloc, out, rest),
+        "run" => append_run(alloc, out, rest),
         "shared" => append_shared(alloc, out, rest),
         "twice" => append_twice(alloc, out, rest),
         "size" => append_size(out, rest),

@@ -8,6 +8,7 @@
 //! - `alike TYPE | TYPE | ..`: of each, by their numbers from 1, which of all these it is equal to;
 //! - `times N WORDS`: what `type` tells, of `int` with the words N times;
 //! - `less N TIMES WORDS`: the same where N layers are taken off again;
+//! - `run N WORD WORDS`: the same where N layers that the word says are put over those of the words at once;
 //! - `shared N TIMES WORDS`: whether the last of N copies, each of the one before, is equal to the first;
 //! - `twice TIMES WORDS`: whether it is equal to one that is made by itself;
 //! - `size NAME N`: whether a value of the type of that name takes at most N bytes;

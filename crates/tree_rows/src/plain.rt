@@ -74,7 +74,8 @@ fn bound(word: &str) -> Option<u64> {
     number.parse::<u64>().ok()
 }
 
-fn layer_of(word: &str) -> Option<Layer> {
+/// The layer that a word says, as `*`, `*const`, `&` or `[2]`.
+pub fn layer_of(word: &str) -> Option<Layer> {
     match word {
         "*" => Some(Layer::Pointer { is_const: false }),
         "*const" => Some(Layer::Pointer { is_const: true }),
@@ -165,9 +166,7 @@ pub fn show_layers(out: &mut String, layers: Layers) -> Result<(), RowFault> {
             return Ok(());
         };
         show_run(out, layer, count)?;
-        for _ in 0..count {
-            layers = layers.under()?;
-        }
+        layers = layers.under_run()?;
     }
     if layers.len() > 0 {
         out.push_str(" ..")?;

@@ -2,8 +2,6 @@ pub mod Forms
 pub mod Deciding
 pub mod Reflexive
 pub mod Rows
-pub mod StatementForms
-pub mod StatementRows
 pub mod Symmetric
 pub mod Transitive
 pub mod Walks

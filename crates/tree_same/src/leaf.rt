@@ -20,10 +20,11 @@ pub fn same_name(tree: &NameTree, other: &NameTree) -> bool
 {
     tree.rooted == other.rooted
         && (same_identifier(&tree.first, &other.first)
-            && identifiers_same(tree.more.as_slice(), other.more.as_slice()))
+            && same_identifiers(tree.more.as_slice(), other.more.as_slice()))
 }
 
-pub(crate) fn identifiers_same(identifiers: &[Identifier], others: &[Identifier]) -> bool
+/// Whether two lists of identifiers are the same, spans aside.
+pub fn same_identifiers(identifiers: &[Identifier], others: &[Identifier]) -> bool
     ensures { IsTrue result ↔ AreSame SameIdentifier identifiers.now others.now }
 {
     let mut rest = others;

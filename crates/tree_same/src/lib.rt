@@ -1,36 +1,20 @@
-//! Trees that are the same, spans aside. Lists are walked by loops, so no recursion goes deeper than a tree nests.
+//! Types and expressions that are the same, spans aside. Lists are walked by loops, so no recursion goes deeper than a tree nests.
 #![tactic(auto)]
 
 mod args;
 mod braced;
-mod class;
-mod class_parts;
-mod heads;
 mod laws;
 mod leaf;
 mod operation;
-mod parts;
 mod root;
-mod stmt;
 mod suffix;
 mod type_tree;
-mod unit;
-mod variable;
 
 pub use args::{same_arg, same_args};
 pub use braced::{same_braced, same_designator, same_new_init};
-pub use class::{same_class, same_constructor, same_destructor, same_function, same_member};
-pub use class_parts::{same_base, same_based, same_member_init, same_member_value};
-pub use heads::{same_for_head, same_for_init, same_for_range, same_for_step, same_returned};
 pub use laws::{parts_decide, same_is_an_equivalence};
-pub use leaf::{same_identifier, same_name};
+pub use leaf::{same_identifier, same_identifiers, same_name};
 pub use operation::same_operation;
-pub use parts::{
-    same_alias, same_aliased, same_assert, same_assign, same_bound, same_init, same_local,
-};
-pub use root::same_expr;
-pub use stmt::{same_block, same_body, same_stmt};
+pub use root::{same_expr, same_expr_if_any};
 pub use suffix::same_suffix;
 pub use type_tree::{same_basic, same_splice, same_type};
-pub use unit::{same_decl, same_item, same_namespace, same_namespace_alias, same_unit};
-pub use variable::{same_enum, same_enumerator, same_parameter, same_variable};

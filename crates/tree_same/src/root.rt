@@ -120,7 +120,7 @@ pub fn same_expr(tree: &Expr, other: &Expr) -> bool
         Expr::New(_, of, bound, init) => match other {
             Expr::New(_, other_of, other_bound, other_init) => {
                 same_type(of.get(), other_of.get())
-                    && (bounds_same(bound, other_bound) && inits_same(init, other_init))
+                    && (same_expr_if_any(bound, other_bound) && inits_same(init, other_init))
             }
             _ => false,
         },
@@ -141,11 +141,12 @@ pub fn same_expr(tree: &Expr, other: &Expr) -> bool
     }
 }
 
+/// Whether two expressions that may be missing are missing both, or are the same, spans aside.
 #[cycle(same)]
-fn bounds_same(bound: &Option<Boxed<Expr>>, other: &Option<Boxed<Expr>>) -> bool
-    ensures { IsTrue result ↔ AreSameIfAny Same bound.now other.now }
+pub fn same_expr_if_any(tree: &Option<Boxed<Expr>>, other: &Option<Boxed<Expr>>) -> bool
+    ensures { IsTrue result ↔ AreSameIfAny Same tree.now other.now }
 {
-    match bound {
+    match tree {
         Some(x) => match other {
             Some(y) => same_expr(x.get(), y.get()),
             None => false,

@@ -33,7 +33,7 @@ impl Printer<'_> {
         match &x.of {
             BasedTree::Name(name) => self.put_last(" name", name.span),
             BasedTree::Splice(splice) => self.put_last(" splice", splice.span()),
-            BasedTree::Typename(splice) => self.put_last(" typename", splice.span()),
+            BasedTree::Typename(_, splice) => self.put_last(" typename", splice.span()),
         }
     }
 

@@ -1,9 +1,9 @@
 //! The spans of declarations.
 
 ghost use Rattle.std.specs.Prelude.{◌≡◌};
-ghost use Rattle.cxx_tree.specs.MoreSpans.{span_of_class, span_of_decl, span_of_item, span_of_member, span_of_member_value};
+ghost use Rattle.cxx_tree.specs.MoreSpans.{span_of_based, span_of_class, span_of_decl, span_of_item, span_of_member, span_of_member_value};
 
-use crate::decl::{ClassTree, Decl, DestructorTree, Item, Member, MemberInitValue};
+use crate::decl::{BasedTree, ClassTree, Decl, DestructorTree, Item, Member, MemberInitValue};
 use cxx_base::{Place, Span};
 
 impl Item {
@@ -43,6 +43,19 @@ impl ClassTree {
     {
         match self {
             ClassTree::Declared(span, _, _) | ClassTree::Defined(span, _, _, _, _) => *span,
+        }
+    }
+}
+
+impl BasedTree {
+    /// Where what a base is stands, with its `typename`.
+    pub fn span(&self) -> Span
+        ensures { result ≡ span_of_based self.now }
+    {
+        match self {
+            BasedTree::Name(name) => name.span,
+            BasedTree::Splice(splice) => splice.span(),
+            BasedTree::Typename(span, _) => *span,
         }
     }
 }

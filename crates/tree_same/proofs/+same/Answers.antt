@@ -54,11 +54,11 @@ root::same_expr-returns-then-array-other_array t c = grind (arith, are_delete _ 
 pub root::same_expr-returns-else-same_type-3 : goal.root::same_expr-returns-else-same_type-3
 root::same_expr-returns-else-same_type-3 t c = grind (arith, are_new _ _ _ _ _ _ _ _ _ _ c.in-New.is c.in-New-other.is)
 
-pub root::same_expr-returns-else-bounds_same : goal.root::same_expr-returns-else-bounds_same
-root::same_expr-returns-else-bounds_same t c = grind (arith, are_new _ _ _ _ _ _ _ _ _ _ c.in-New.is c.in-New-other.is)
+pub root::same_expr-returns-else-same_expr_if_any : goal.root::same_expr-returns-else-same_expr_if_any
+root::same_expr-returns-else-same_expr_if_any t c = grind (arith, are_new _ _ _ _ _ _ _ _ _ _ c.in-New.is c.in-New-other.is)
 
-pub root::same_expr-returns-then-bounds_same : goal.root::same_expr-returns-then-bounds_same
-root::same_expr-returns-then-bounds_same t c = grind (arith, are_new _ _ _ _ _ _ _ _ _ _ c.in-New.is c.in-New-other.is)
+pub root::same_expr-returns-then-same_expr_if_any : goal.root::same_expr-returns-then-same_expr_if_any
+root::same_expr-returns-then-same_expr_if_any t c = grind (arith, are_new _ _ _ _ _ _ _ _ _ _ c.in-New.is c.in-New-other.is)
 
 pub root::same_expr-returns-then-same_expr-2 : goal.root::same_expr-returns-then-same_expr-2
 root::same_expr-returns-then-same_expr-2 t c = grind (arith, are_chain _ _ _ _ _ _ _ _ c.in-Chain.is c.in-Chain-other.is)

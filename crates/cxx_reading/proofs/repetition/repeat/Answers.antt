@@ -1,4 +1,4 @@
-use Rattle.std.proofs.Common.{◌≡◌, ℕ, ◌∷◌, ◌++◌, [], List, Ok}
+use Rattle.std.proofs.Common.{◌≡◌}
 use Rattle.cxx_reading.specs.Reading.{Tree}
 use Rattle.cxx_reading.specs.Answers.{with_one}
 use Rattle.cxx_reading.proofs.Turns.{goes_on, stops, fails}

@@ -1,6 +1,4 @@
-use Rattle.std.proofs.Common.{◌≡◌, ap, refl, sym}
-use Rattle.cxx_tokens.specs.Characters.{is_in_line}
-use Rattle.cxx_tokens.proofs.Composed.{cuts_from_one_before, flat_from_one_before}
+use Rattle.cxx_tokens.proofs.Composed.{cuts_from_one_before}
 use Rattle.cxx_tokens.proofs.gap.gap_at.Goals as goal
 
 pub returns-then-is_first-clause-cut : goal.returns-then-is_first-clause-cut

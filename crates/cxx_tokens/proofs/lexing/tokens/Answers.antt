@@ -1,4 +1,3 @@
-use Rattle.std.proofs.Common.{subst}
 use Rattle.cxx_tokens.proofs.Told.{each_known, ends_rising, are_few, holds_members, is_cut}
 use Rattle.cxx_tokens.proofs.lexing.tokens.Goals as goal
 

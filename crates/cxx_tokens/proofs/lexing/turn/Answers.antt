@@ -1,4 +1,4 @@
-use Rattle.std.proofs.Common.{◌≡◌, ◌∙◌, Some, Ok, ap, sym, chars, take, drop, length, ◌++◌, ◌∷◌, []}
+use Rattle.std.proofs.Common.{◌∙◌, ap, sym, chars, drop, length, ◌++◌, ◌∷◌, []}
 use Rattle.cxx_tokens.specs.Lex.{Found, token_from}
 use Rattle.cxx_tokens.specs.Turns.{lexed_on}
 use Rattle.cxx_tokens.proofs.Cut.{some_characters}

@@ -1,21 +1,16 @@
-use Rattle.std.proofs.Common.{◌≡◌, ◌∙◌, [], length, get_or, sym, subst, arith}
-use Rattle.cxx_tokens.specs.Lex.{reserved}
-use Rattle.cxx_tokens.specs.Words.{AreBelow, first_spelled}
-use Rattle.cxx_tokens.proofs.Words.{places_below, found_by_key, key_within}
+use Rattle.std.proofs.Common.{◌≡◌, ◌∙◌, ap, length, get_or, arith}
+use Rattle.cxx_tokens.specs.declared.word.TheConstants.{BY_KEY}
+use Rattle.cxx_tokens.specs.Words.{key}
+use Rattle.cxx_tokens.proofs.Words.{found_by_key}
 use Rattle.cxx_tokens.proofs.word.place_by_key.Goals as goal
-
-pub first_of-requires : goal.first_of-requires
-first_of-requires c =
-    subst (λ k. AreBelow (length c.args.words.now) (get_or c.args.places.now k (record { ref_ptr = (0, 0); now = [] })).now) (sym c.key-key.ensures)
-    (places_below c.args.words.now c.args.places.now c.args.text.now c.requires.words c.requires.places)
 
 pub returns-then-key-places : goal.returns-then-key-places
 returns-then-key-places c =
-    c.first_of.ensures
-    ∙ subst (λ k. first_spelled c.args.words.now (get_or c.args.places.now k (record { ref_ptr = (0, 0); now = [] })).now c.args.text.now ≡ reserved c.args.text.now) (sym c.key-key.ensures)
-    (found_by_key c.args.words.now c.args.places.now c.args.text.now c.requires.words c.requires.places)
+    let place : c.from.result ≡ get_or BY_KEY (key c.args.text.now) 0 =
+    c.from.ensures ∙ ap (λ places. get_or places c.key-key.result 0) c.requires.places ∙ ap (λ k. get_or BY_KEY k 0) c.key-key.ensures.key in
+    c.word_at.ensures ∙ found_by_key c.args.words.now c.requires.words c.args.text.now _ place
 
 pub returns-else-key-places : goal.returns-else-key-places
 returns-else-key-places c =
-    let within = key_within c.args.words.now c.args.places.now c.args.text.now c.requires.words c.requires.places in
-    absurd (omega (arith, within, c.key-key.ensures, c.if-key-places.false))
+    let all = ap length c.requires.places in
+    absurd (omega (arith, all, c.key-key.ensures.small, c.if-key-places.false))

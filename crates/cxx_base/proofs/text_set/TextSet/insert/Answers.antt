@@ -3,6 +3,7 @@ use Rattle.std.proofs.lemmas.Option.{slice_get-map}
 use Rattle.std.specs.Cmp.Lexicographic.{bytes_decides}
 use Rattle.std.specs.Option.{option_map}
 use Rattle.cxx_base.specs.Texts.{number_of, with_text}
+use Rattle.cxx_base.specs.TextTable.{TextTable}
 use Rattle.cxx_base.proofs.TextLemmas.{number_of-map, with_text-map}
 use Rattle.cxx_base.proofs.text_set.TextSet.insert.Goals as goal
 
@@ -11,14 +12,14 @@ returns-clause-number c =
     c.in_ok-at.ensures.index
     ∙ sym (number_of-map string_bytes (string_bytes c.in_ok-owned.owned) c.self.inside.texts.keys)
     ∙ ap (number_of (map string_bytes c.self.inside.texts.keys)) c.in_ok-owned.ensures.ok
-    ∙ ap (λ n. number_of n c.args.text.now) c.self.view_is
+    ∙ ap (λ (table : TextTable). number_of table.texts c.args.text.now) c.self.view_is
 
 pub returns-clause-texts : goal.returns-clause-texts
 returns-clause-texts c =
     ap (map string_bytes) c.in_ok-at.ensures.keys
     ∙ with_text-map string_bytes c.in_ok-owned.owned c.self.inside.texts.keys
     ∙ ap (with_text (map string_bytes c.self.inside.texts.keys)) c.in_ok-owned.ensures.ok
-    ∙ ap (λ n. with_text n c.args.text.now) c.self.view_is
+    ∙ ap (λ (table : TextTable). with_text table.texts c.args.text.now) c.self.view_is
 
 pub returns-clause-stored : goal.returns-clause-stored
 returns-clause-stored c =

@@ -1,4 +1,4 @@
-use Rattle.std.proofs.Common.{◌≡◌, ◌∙◌, ap, sym}
+use Rattle.std.proofs.Common.{◌∙◌, ap, sym}
 use Rattle.cxx_tree.specs.MoreSpans.{span_of_class}
 use Rattle.cxx_tree.proofs.Boxes.{class_span}
 use Rattle.cxx_tree.proofs.stmt.Stmt.span.Goals as goal

@@ -1,7 +1,0 @@
-use Rattle.tree_same.proofs.Walks.{runs_out}
-use Rattle.tree_same.specs.Parts.{SameEnumerator}
-use Rattle.tree_same.proofs.variable.enumerators_same.Goals as goal
-
-pub returns-in-None : goal.returns-in-None
-returns-in-None c =
-    (λ no. cc, λ same. absurd (runs_out SameEnumerator _ _ _ c.loop-x-test.true c.in-None.ensures.cases (c.loop-x.invariant.0 same)))
