@@ -1,0 +1,6 @@
+pub mod Basics
+pub mod Arrays
+pub mod Held
+pub mod ExprTrees
+pub mod StmtTrees
+pub mod Has
