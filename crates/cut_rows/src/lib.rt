@@ -1,0 +1,6 @@
+//! What the definition of tokens says of some texts, computed.
+#![tactic(auto)]
+
+mod laws;
+
+pub use laws::{texts_have_their_cuts, texts_have_their_tokens};
