@@ -1,3 +1,8 @@
-pub mod ThreeFacts
-pub mod Workers
-pub mod Readless
+pub mod Loans
+pub mod PieceWork
+pub mod Searched
+pub mod HandEnds
+pub mod HandLists
+pub mod ReadlessFacts
+pub mod Parks
+mod StepRows

@@ -1,5 +1,3 @@
-pub mod Pieces
-pub mod ThreePieces
-pub mod Idle
-pub mod Ready
-pub mod FoundSays
+pub mod Holding
+pub mod Ends
+pub mod Ending

@@ -1,21 +1,18 @@
-//! Callers of the board: workers of two small meanings, and what a worker knows that looks for work. Each is proved from what the
-//! calls say of plain views.
+//! Callers of the board, each proved from what the calls say of plain views: hands in threads of their own that settle the pieces of
+//! any meaning together, and a worker of pieces without reads.
 #![tactic(auto)]
 
-mod many;
-mod many_work;
-mod rounds;
-mod scanning;
-mod three;
-mod three_board;
-mod three_task;
-mod three_work;
+mod borrowing;
+mod hand;
+mod piece_work;
+mod readless_work;
+mod round;
+mod tasked;
+mod together;
+mod turns;
 
-pub use many::Many;
-pub use many_work::{settle_by_four, settle_by_two, settle_some};
-pub use rounds::{ThreadCount, settle_round};
-pub use scanning::{Found, scan};
-pub use three::Three;
-pub use three_board::{OpenedThree, close_three, open_three};
-pub use three_task::ThreeTask;
-pub use three_work::settle_three;
+pub use hand::{Hand, HandEnd, Plan};
+pub use piece_work::work;
+pub use readless_work::settle_some;
+pub use tasked::Tasked;
+pub use together::{Ending, settle_all};

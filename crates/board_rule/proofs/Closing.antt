@@ -1,6 +1,6 @@
 -- A board whose seats are all one, which has no piece: nothing is held or lent. What was seen settled is at home, and where all is
 -- settled, the outcomes and the steps are all there.
-use Rattle.std.proofs.Common.{◌≡◌, ◌≢◌, ◌⊎◌, ℕ, ◌+◌, ◌<◌, ◌≤◌, List, [], length, get_or, sym, refl, ap, ◌∙◌, subst, arith, Bool, true, false, cond, inl, inr, Some, None}
+use Rattle.std.proofs.Common.{◌≡◌, ◌≢◌, ◌⊎◌, ℕ, ◌+◌, ◌<◌, ◌≤◌, List, [], length, get_or, sym, refl, ap, ◌∙◌, subst, arith, Bool, true, false, inl, inr, Some, None, if◌then◌else◌}
 use mathlib.Core.Option.{some, some-injective}
 use lib.ListN.{get_elem?}
 use Rattle.atomic_table.specs.Table.{State}
@@ -44,8 +44,8 @@ module _ {X T O : Type 0} (meant : X → Meant T O) (key : Key X) (s : State (Ho
 
   not_held : (k i : ℕ) (h : Hold T) (b : Bool) → r.at k ≡ held i h b → ⊥
   not_held k i h b was = let u = elem_below s.views i (subst (SeatBelow (length s.views)) was (r.seated k)) in
-      let q : None ≡ cond (is_same i i) (Some h) None = ap (hold_on k) (sym (no_piece i u.0 u.1).0) ∙ ((r.views i u.0 u.1).holds k ∙ ap (held_by i) was) in
-      let t : None ≡ Some h = q ∙ ap (λ z. cond z (Some h) None) (same_yes i i refl) in absurd cc
+      let q : None ≡ (if is_same i i then Some h else None) = ap (hold_on k) (sym (no_piece i u.0 u.1).0) ∙ ((r.views i u.0 u.1).holds k ∙ ap (held_by i) was) in
+      let t : None ≡ Some h = q ∙ ap (λ z. if z then Some h else None) (same_yes i i refl) in absurd cc
 
   not_lent : (k i : ℕ) (b : Bool) → r.at k ≡ lent i b → ⊥
   not_lent k i b was = let u = elem_below s.views i (subst (SeatBelow (length s.views)) was (r.seated k)) in

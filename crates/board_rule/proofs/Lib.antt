@@ -11,3 +11,4 @@ pub mod Lends
 pub mod Seats
 pub mod Closing
 pub mod Showing
+pub mod StepLaw

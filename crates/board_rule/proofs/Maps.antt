@@ -1,5 +1,5 @@
 -- What `put_at`, `values`, `total` and `HasSome` give, and which hold a list has on a piece.
-use Rattle.std.proofs.Common.{◌≡◌, ◌≢◌, ◌⊎◌, ℕ, zero, suc, ◌+◌, ◌<◌, ◌≤◌, List, [], ◌∷◌, ◌++◌, length, replicate, set, slice_get, slice_set, sym, refl, ap, ◌∙◌, subst, arith, Bool, true, false, cond, eq-eqb, ne_eqb, inl, inr, ⊎_elim, Some, None}
+use Rattle.std.proofs.Common.{◌≡◌, ◌≢◌, ◌⊎◌, ℕ, zero, suc, ◌+◌, ◌<◌, ◌≤◌, List, [], ◌∷◌, ◌++◌, length, replicate, set, slice_get, slice_set, sym, refl, ap, ◌∙◌, subst, arith, Bool, true, false, cond, eq-eqb, ne_eqb, inl, inr, ⊎_elim, Some, None, if◌then◌else◌}
 use mathlib.Core.Option.{some, some-injective, some-ne-none}
 use mathlib.Core.Logic.{dite}
 use native.Mathlib.Decide.{ℕ_discrete}
@@ -26,11 +26,11 @@ by_same j k is not = dite (ℕ_discrete j k) is not
 module _ {A : Type 0} (f : ℕ → A) (k : ℕ) (x : A) where
   pub put_here : put_at f k x k ≡ x
   unfolding put_at
-  put_here = ap (λ b. cond b x (f k)) (same_yes k k refl)
+  put_here = ap (λ b. if b then x else f k) (same_yes k k refl)
 
   pub put_else : (j : ℕ) → j ≢ k → put_at f k x j ≡ f j
   unfolding put_at
-  put_else j n = ap (λ b. cond b x (f j)) (same_no j k n)
+  put_else j n = ap (λ b. if b then x else f j) (same_no j k n)
 
   -- by cases: k itself, which has x, and each other number, which has what f gave
   pub put_all : (P : ℕ → A → Type 0) → P k x → ((j : ℕ) → j ≢ k → P j (f j)) → (j : ℕ) → P j (put_at f k x j)
@@ -149,22 +149,22 @@ sum_put w f k x (suc n) l = by_same k n
 
 module _ {T : Type 0} (h : Hold T) (hs : List (Hold T)) (j : ℕ) where
   pub hold_here : h.piece ≡ j → hold_on j (h ∷ hs) ≡ Some h
-  hold_here e = ap (λ b. cond b (Some h) (hold_on j hs)) (same_yes h.piece j e)
+  hold_here e = ap (λ b. if b then Some h else hold_on j hs) (same_yes h.piece j e)
 
   pub hold_else : h.piece ≢ j → hold_on j (h ∷ hs) ≡ hold_on j hs
-  hold_else n = ap (λ b. cond b (Some h) (hold_on j hs)) (same_no h.piece j n)
+  hold_else n = ap (λ b. if b then Some h else hold_on j hs) (same_no h.piece j n)
 
 pub hold_gone : {T : Type 0} (k : ℕ) (hs : List (Hold T)) → hold_on k (without k hs) ≡ None
 hold_gone k [] = refl
 hold_gone k (h ∷ hs) = by_same h.piece k
-    (λ (e : h.piece ≡ k). subst (λ (b : Bool). hold_on k (cond b (without k hs) (h ∷ without k hs)) ≡ None) (sym (same_yes h.piece k e)) (hold_gone k hs))
-    (λ (n : h.piece ≢ k). subst (λ (b : Bool). hold_on k (cond b (without k hs) (h ∷ without k hs)) ≡ None) (sym (same_no h.piece k n)) (hold_else h (without k hs) k n ∙ hold_gone k hs))
+    (λ (e : h.piece ≡ k). subst (λ (b : Bool). hold_on k (if b then without k hs else h ∷ without k hs) ≡ None) (sym (same_yes h.piece k e)) (hold_gone k hs))
+    (λ (n : h.piece ≢ k). subst (λ (b : Bool). hold_on k (if b then without k hs else h ∷ without k hs) ≡ None) (sym (same_no h.piece k n)) (hold_else h (without k hs) k n ∙ hold_gone k hs))
 
 pub hold_kept : {T : Type 0} (k j : ℕ) (hs : List (Hold T)) → j ≢ k → hold_on j (without k hs) ≡ hold_on j hs
 hold_kept k j [] n = refl
 hold_kept k j (h ∷ hs) n = by_same h.piece k
-    (λ (e : h.piece ≡ k). subst (λ (b : Bool). hold_on j (cond b (without k hs) (h ∷ without k hs)) ≡ hold_on j (h ∷ hs)) (sym (same_yes h.piece k e)) (hold_kept k j hs n ∙ sym (hold_else h hs j (λ q. n (sym q ∙ e)))))
-    (λ (d : h.piece ≢ k). subst (λ (b : Bool). hold_on j (cond b (without k hs) (h ∷ without k hs)) ≡ hold_on j (h ∷ hs)) (sym (same_no h.piece k d)) (ap (cond (is_same h.piece j) (Some h)) (hold_kept k j hs n)))
+    (λ (e : h.piece ≡ k). subst (λ (b : Bool). hold_on j (if b then without k hs else h ∷ without k hs) ≡ hold_on j (h ∷ hs)) (sym (same_yes h.piece k e)) (hold_kept k j hs n ∙ sym (hold_else h hs j (λ q. n (sym q ∙ e)))))
+    (λ (d : h.piece ≢ k). subst (λ (b : Bool). hold_on j (if b then without k hs else h ∷ without k hs) ≡ hold_on j (h ∷ hs)) (sym (same_no h.piece k d)) (ap (cond (is_same h.piece j) (Some h)) (hold_kept k j hs n)))
 
 pub seat_grows : {T : Type 0} (p : Standing T) (n n' : ℕ) → n ≤ n' → SeatBelow n p → SeatBelow n' p
 seat_grows fresh n n' l h = tt

@@ -1,14 +1,14 @@
 -- A step of one seat keeps the rule: one lemma for each step that moves a piece, and one for each that moves none.
-use Rattle.std.proofs.Common.{◌≡◌, ◌≢◌, ◌⊎◌, ℕ, ◌+◌, ◌<◌, ◌≤◌, List, length, get_or, set, sym, ap, ◌∙◌, refl, subst, arith, Bool, true, inl, inr, ◌∷◌, ⊎_elim, length-set}
+use Rattle.std.proofs.Common.{◌≡◌, ◌≢◌, ◌⊎◌, ℕ, ◌+◌, ◌<◌, ◌≤◌, List, [], length, get_or, set, sym, ap, ◌∙◌, refl, subst, arith, Bool, true, inl, inr, ◌∷◌, ⊎_elim, length-set}
 use mathlib.Core.Option.{some}
 use mathlib.Core.Option as maybe
 use lib.ListN.{get_elem?}
 use Rattle.atomic_table.specs.Table.{State}
 use Rattle.atomic_table.proofs.Lists.{at_set, set_here}
 use Rattle.settle_core.specs.Meant.{Meant, Lawful, outcome}
-use Rattle.settle_core.specs.State.{all_fresh}
+use Rattle.settle_core.specs.declared.core_step.CoreStep.{CoreStep}
 use Rattle.board_rule.specs.Maps.{is_it, IsAmong, HasSome, put_at}
-use Rattle.board_rule.specs.Stages.{Stage, states, Leads}
+use Rattle.board_rule.specs.Stages.{Stage, LeadsBy}
 use Rattle.board_rule.specs.Standing.{Standing, fresh, held, parked, settled, lent, IsSettled, IsBegun, held_by, lent_to, in_hand_of, SeatBelow, next_read, taken_at, advanced_at, word_of, home_of, steps_of, stage_of, HasTaken, IsSound}
 use Rattle.board_rule.specs.Views.{hold_on}
 use Rattle.board_rule.specs.Rule.{PieceFits, ViewFits, work, OneState}
@@ -16,7 +16,7 @@ use Rattle.board_rule.specs.declared.home.Home.{Home}
 use Rattle.board_rule.specs.declared.view.Key.{Key}
 use Rattle.board_rule.specs.declared.view.View.{View}
 use Rattle.board_rule.proofs.Maps.{put_here, put_else, put_all, at_length, some_kept, total_set, sum_put, at_most, sums_within}
-use Rattle.board_rule.proofs.Machine.{leads_on}
+use Rattle.board_rule.proofs.Machine.{reached_on}
 use Rattle.board_rule.proofs.Standings.{steps_within}
 
 -- one piece goes from how it stood to p', and is settled where it was
@@ -69,8 +69,9 @@ module _ {X T O : Type 0} (meant : X → Meant T O) (key : Key X) where
   abbrev m : Meant T O
   m = meant key.meaning
 
-  -- What has to be shown of a step by which the piece k, which stood as p, stands as p', and the view v of the seat id becomes w
-  pub record Change (s : State (Home T O) (View X T)) (at : ℕ → Standing T) (k id : ℕ) (v w : View X T) (p p' : Standing T) (words' : List ℕ) (homes' : List (maybe.Option (Home T O))) : Type 0 where
+  -- What has to be shown of a step by which the piece k, which stood as p, stands as p', and the view v of the seat id becomes w. In the
+  -- machine it is these steps
+  pub record Change (s : State (Home T O) (View X T)) (at : ℕ → Standing T) (k id : ℕ) (v w : View X T) (p p' : Standing T) (words' : List ℕ) (homes' : List (maybe.Option (Home T O))) (steps : List CoreStep) : Type 0 where
     pub was : at k ≡ p
     pub inside : k < m.pieces
     pub seat : get_elem? s.views id ≡ some v
@@ -93,10 +94,10 @@ module _ {X T O : Type 0} (meant : X → Meant T O) (key : Key X) where
     pub begun : Tells IsBegun k p p' v.begun w.begun
     pub marks : (w.stopped ≡ v.stopped) × (w.saw_stop ≡ v.saw_stop)
     pub share : (w.share ≡ v.share) × (0 < v.share)
-    pub leads : (g : ℕ → Stage) → g k ≡ stage_of m p' → ((j : ℕ) → j ≢ k → g j ≡ stage_of m (at j)) → Leads m (states m (λ j. stage_of m (at j))) g
+    pub leads : (g : ℕ → Stage) → g k ≡ stage_of m p' → ((j : ℕ) → j ≢ k → g j ≡ stage_of m (at j)) → LeadsBy m steps (λ j. stage_of m (at j)) g
     pub spent : w.spent + steps_of m k p ≡ v.spent + steps_of m k p'
 
-  module _ (s : State (Home T O) (View X T)) (r : OneState meant key s) (k id : ℕ) (v w : View X T) (p p' : Standing T) (words' : List ℕ) (homes' : List (maybe.Option (Home T O))) (c : Change s r.at k id v w p p' words' homes') where
+  module _ (s : State (Home T O) (View X T)) (r : OneState meant key s) (k id : ℕ) (v w : View X T) (p p' : Standing T) (words' : List ℕ) (homes' : List (maybe.Option (Home T O))) {steps : List CoreStep} (c : Change s r.at k id v w p p' words' homes' steps) where
     stays_here : IsSettled (r.at k) → IsSettled p'
     stays_here h = c.seen.stays (subst IsSettled c.was h)
 
@@ -138,7 +139,7 @@ module _ {X T O : Type 0} (meant : X → Meant T O) (key : Key X) where
     }
 
     -- the machine goes from the state before to the state after
-    pub leads_there : Leads m (states m (λ j. stage_of m (r.at j))) (λ j. stage_of m (at' j))
+    leads_there : LeadsBy m steps (λ j. stage_of m (r.at j)) (λ j. stage_of m (at' j))
     leads_there = c.leads (λ j. stage_of m (at' j)) (ap (stage_of m) (put_here r.at k p')) (λ j n. ap (stage_of m) (put_else r.at k p' j n))
 
     pub moves : OneState meant key record { words = words'; homes = homes'; views = set s.views id w }
@@ -148,7 +149,7 @@ module _ {X T O : Type 0} (meant : X → Meant T O) (key : Key X) where
       deep = c.homes_long ∙ r.deep;
       pieces = piece_fits;
       beyond = λ j h. put_else r.at k p' j (λ e. let l = c.inside in omega arith) ∙ r.beyond j h;
-      reached = leads_on m (all_fresh m.pieces) (λ j. stage_of m (r.at j)) (λ j. stage_of m (at' j)) r.reached leads_there;
+      reached = reached_on m steps (λ j. stage_of m (r.at j)) (λ j. stage_of m (at' j)) r.reached leads_there;
       seated = λ j. subst (λ (n : ℕ). SeatBelow n (at' j)) (sym (length-set s.views id w)) (put_all r.at k p' (λ i q. SeatBelow (length s.views) q) c.below (λ i n. r.seated i) j);
       stop = (let a = stop_same in let b = r.stop in omega arith);
       views = λ j u e. ⊎_elim (λ (t : (j ≡ id) × (w ≡ u)). subst (λ (z : ℕ × View X T). ViewFits at' (get_or words' m.pieces 0) z.0 z.1) (λ i. (sym t.0 i, t.1 i)) own)
@@ -159,6 +160,10 @@ module _ {X T O : Type 0} (meant : X → Meant T O) (key : Key X) where
       shares = let a = total_set (λ (z : View X T). z.share) s.views id v w c.seat in let b = c.share in let d = r.shares in omega arith;
       spent = let a = total_set (λ (z : View X T). z.spent) s.views id v w c.seat in let b = c.spent in let d = r.spent in let z = ap (steps_of m k) c.was in let e = sum_put (steps_of m) r.at k p' m.pieces c.inside in omega arith;
     }
+
+    pub moves_by : LeadsBy m steps (λ j. stage_of m (r.at j)) (λ j. stage_of m (moves.at j))
+    unfolding moves
+    moves_by = leads_there
 
   -- What has to be shown of a step after which each piece stands as before
   pub record Sight (s : State (Home T O) (View X T)) (at : ℕ → Standing T) (id : ℕ) (v w : View X T) (words' : List ℕ) : Type 0 where
@@ -215,6 +220,10 @@ module _ {X T O : Type 0} (meant : X → Meant T O) (key : Key X) where
       shares = let a = total_set (λ (z : View X T). z.share) s.views id v w c.seat in let b = c.share in let d = r.shares in omega arith;
       spent = let a = total_set (λ (z : View X T). z.spent) s.views id v w c.seat in let b = c.spent in let d = r.spent in omega arith;
     }
+
+    pub sees_by : LeadsBy m [] (λ j. stage_of m (r.at j)) (λ j. stage_of m (sees.at j))
+    unfolding sees
+    sees_by next law = refl
 
   -- no seat has spent more than the steps of all outcomes
   pub spent_within : Lawful m → (s : State (Home T O) (View X T)) → OneState meant key s → (id : ℕ) (v : View X T) → get_elem? s.views id ≡ some v → v.spent ≤ work m

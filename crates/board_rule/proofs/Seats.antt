@@ -2,12 +2,12 @@
 use Rattle.std.proofs.Common.{◌≡◌, ◌≢◌, ℕ, zero, suc, ◌+◌, ◌<◌, List, [], ◌∷◌, ◌++◌, length, get_or, set, sym, refl, ap, ◌∙◌, subst, arith, Bool, true, false, ◌||◌, replicate, map, ⊎_elim, None, length-set, length-append, add-zero}
 use mathlib.Core.Option.{some, some-ne-none}
 use lib.ListN.{get_elem?, length-replicate, get_or-replicate, length-map}
-use Rattle.atomic_table.specs.Table.{Splits, Joins, opening}
+use Rattle.atomic_table.specs.Table.{State, Splits, Joins, opening}
 use Rattle.atomic_table.proofs.Lists.{set_else, at_set}
 use Rattle.settle_core.specs.Meant.{Meant}
 use Rattle.board_rule.specs.Maps.{is_it, IsAmong}
-use Rattle.board_rule.specs.Stages.{untouched}
-use Rattle.board_rule.specs.Standing.{fresh, SeatBelow}
+use Rattle.board_rule.specs.Stages.{untouched, LeadsBy}
+use Rattle.board_rule.specs.Standing.{fresh, SeatBelow, stage_of}
 use Rattle.board_rule.specs.Views.{hold_on, first_view, with_less, newcomer, joined, gone}
 use Rattle.board_rule.specs.Rule.{ViewFits, OneState}
 use Rattle.board_rule.specs.declared.home.Home.{Home}
@@ -53,6 +53,11 @@ module _ {X T O : Type 0} (meant : X → Meant T O) (key : Key X) where
         shares = (let a = total_set (λ (z : View X T). z.share) s.views id v (with_less v) seat in let b = total_push (λ (z : View X T). z.share) views' (newcomer v) in let d = r.shares in omega arith);
         spent = (let a = total_set (λ (z : View X T). z.spent) s.views id v (with_less v) seat in let b = total_push (λ (z : View X T). z.spent) views' (newcomer v) in let d = r.spent in omega arith);
       }
+
+  pub cuts_by : (id : ℕ) (v : View X T) (two : 1 < v.share) (s : State (Home T O) (View X T)) (r : OneState meant key s) (seat : get_elem? s.views id ≡ some v)
+      → LeadsBy m [] (λ k. stage_of m (r.at k)) (λ k. stage_of m ((cuts id v two s r seat).at k))
+  unfolding cuts
+  cuts_by id v two s r seat next law = refl
 
   -- A seat may only be joined to another once it has let go of all pieces, loans and slots
   pub joins : (id other : ℕ) (v w : View X T) → 0 < v.share → 0 < w.share → w.held ≡ [] → w.lent ≡ None → w.hand ≡ None → Joins (OneState meant key) id v other w (joined v w) gone
@@ -107,6 +112,12 @@ module _ {X T O : Type 0} (meant : X → Meant T O) (key : Key X) where
       one_of : (a b : Bool) (stop : ℕ) → (a ≡ true → stop ≡ 1) → (b ≡ true → stop ≡ 1) → (a || b) ≡ true → stop ≡ 1
       one_of true b stop f g e = f refl
       one_of false b stop f g e = g e
+
+  pub joins_by : (id other : ℕ) (v w : View X T) (a : 0 < v.share) (b : 0 < w.share) (c : w.held ≡ []) (d : w.lent ≡ None) (e : w.hand ≡ None) (s : State (Home T O) (View X T)) (r : OneState meant key s)
+      (seat : get_elem? s.views id ≡ some v) (apart : other ≢ id) (seat' : get_elem? (set s.views id (joined v w)) other ≡ some w)
+      → LeadsBy m [] (λ k. stage_of m (r.at k)) (λ k. stage_of m ((joins id other v w a b c d e s r seat apart seat').at k))
+  unfolding joins
+  joins_by id other v w a b c d e s r seat apart seat' next law = refl
 
   -- a new board: every piece is fresh, and the stop word is not set
   pub opens : (words : List ℕ) (homes : List (Home T O)) → words ≡ replicate (m.pieces + 1) 0 → homes ≡ replicate m.pieces Empty → 0 < key.seats → OneState meant key (opening words homes (first_view key))

@@ -1,5 +1,5 @@
 -- The rule shows one state and no other, and this is sound.
-use Rattle.std.proofs.Common.{◌≡◌, ◌≢◌, ℕ, zero, suc, ◌+◌, ◌<◌, List, [], ◌∷◌, length, get_or, slice_get, cond, Bool, true, false, Option, Some, None, sym, refl, ap, ◌∙◌, subst, arith, ◌⊎◌, ◌↔◌, inl, inr, ⊎_elim}
+use Rattle.std.proofs.Common.{◌≡◌, ◌≢◌, ℕ, zero, suc, ◌+◌, ◌<◌, List, [], ◌∷◌, length, get_or, slice_get, Bool, true, false, Option, Some, None, sym, refl, ap, ◌∙◌, subst, arith, ◌⊎◌, ◌↔◌, inl, inr, ⊎_elim, if◌then◌else◌}
 use Rattle.std.proofs.lemmas.Option.{slice_get_within}
 use mathlib.Core.Option.{some}
 use lib.ListN.{get_elem?}
@@ -66,7 +66,7 @@ module _ {X T O : Type 0} (meant : X → Meant T O) (key : Key X) (s : State (Ho
 
     one_holder : (i : ℕ) (h : Hold T) (b : Bool) → r.at k ≡ held i h b → (j : ℕ) (u : View X T) (g : Hold T) → get_elem? s.views j ≡ some u → hold_on k u.held ≡ Some g → j ≡ i
     one_holder i h b e j u g at has = by_same j i (λ (q : j ≡ i). q)
-        (λ (n : j ≢ i). let t : None ≡ Some g = sym (ap (λ z. cond z (Some h) None) (same_no i j (λ q. n (sym q)))) ∙ (sym (ap (held_by j) e) ∙ (sym ((r.views j u at).holds k) ∙ has)) in absurd cc)
+        (λ (n : j ≢ i). let t : None ≡ Some g = sym (ap (λ z. if z then Some h else None) (same_no i j (λ q. n (sym q)))) ∙ (sym (ap (held_by j) e) ∙ (sym ((r.views j u at).holds k) ∙ has)) in absurd cc)
 
     one_borrower : (i : ℕ) (b : Bool) → r.at k ≡ lent i b → (j : ℕ) (u : View X T) → get_elem? s.views j ≡ some u → u.lent ≡ Some k → j ≡ i
     one_borrower i b e j u at has = by_same j i (λ (q : j ≡ i). q)
@@ -81,7 +81,7 @@ module _ {X T O : Type 0} (meant : X → Meant T O) (key : Key X) (s : State (Ho
     shows_at : (p : Standing T) → r.at k ≡ p → ShowsAt m s k (state_of m k (stage_of m p))
     shows_at fresh e = (word_is fresh e, home_is fresh e, none_holds fresh e (λ _. refl), none_borrows fresh e (λ _. refl))
     shows_at (held i h b) e = let u = elem_below s.views i (subst (SeatBelow (length s.views)) e (r.seated k)) in
-        (word_is (held i h b) e, (u.0, h, u.1, (r.views i u.0 u.1).holds k ∙ (ap (held_by i) e ∙ ap (λ z. cond z (Some h) None) (same_yes i i refl)), refl, refl, held_slot i h b u.0 u.1 e, one_holder i h b e), none_borrows (held i h b) e (λ _. refl))
+        (word_is (held i h b) e, (u.0, h, u.1, (r.views i u.0 u.1).holds k ∙ (ap (held_by i) e ∙ ap (λ z. if z then Some h else None) (same_yes i i refl)), refl, refl, held_slot i h b u.0 u.1 e, one_holder i h b e), none_borrows (held i h b) e (λ _. refl))
     shows_at (parked t) e = let sound : IsSound m r.at k (parked t) = subst (IsSound m r.at k) e (r.pieces k inside).sound in
         (word_is (parked t) e, (t, home_is (parked t) e, sound.2, refl, refl), none_holds (parked t) e (λ _. refl), none_borrows (parked t) e (λ _. refl))
     shows_at settled e = (none_holds settled e (λ _. refl), inl (word_is settled e, home_is settled e, none_borrows settled e (λ _. refl)))
@@ -91,7 +91,7 @@ module _ {X T O : Type 0} (meant : X → Meant T O) (key : Key X) (s : State (Ho
     stands_for : (p : Standing T) → r.at k ≡ p → StandsFor m s k (steps_of m k p)
     stands_for fresh e = inl (word_is fresh e, refl)
     stands_for (held i h b) e = let u = elem_below s.views i (subst (SeatBelow (length s.views)) e (r.seated k)) in
-        inr (inl (word_is (held i h b) e, (i, u.0, h, u.1, (r.views i u.0 u.1).holds k ∙ (ap (held_by i) e ∙ ap (λ z. cond z (Some h) None) (same_yes i i refl)), refl)))
+        inr (inl (word_is (held i h b) e, (i, u.0, h, u.1, (r.views i u.0 u.1).holds k ∙ (ap (held_by i) e ∙ ap (λ z. if z then Some h else None) (same_yes i i refl)), refl)))
     stands_for (parked t) e = inr (inr (inl ((let w = word_is (parked t) e in omega arith), (t, home_is (parked t) e, refl))))
     stands_for settled e = inr (inr (inr (inl (word_is settled e), refl)))
     stands_for (lent i b) e = inr (inr (inr (inr (word_is (lent i b) e), refl)))

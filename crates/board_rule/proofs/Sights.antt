@@ -9,7 +9,7 @@ use Rattle.board_rule.specs.Maps.{is_same, IsAmong}
 use Rattle.board_rule.specs.Standing.{IsSettled}
 use Rattle.board_rule.specs.Views.{after_look, after_stop_look, after_stop}
 use Rattle.board_rule.specs.Rule.{OneState}
-use Rattle.board_rule.specs.Plays.{looked, looked_at_stop, stopped}
+use Rattle.board_rule.specs.Plays.{look_tells, stop_look_tells, stop_tells}
 use Rattle.board_rule.specs.declared.home.Home.{Home}
 use Rattle.board_rule.specs.declared.view.Key.{Key}
 use Rattle.board_rule.specs.declared.view.View.{View}
@@ -55,7 +55,7 @@ module _ {X T O : Type 0} (meant : X → Meant T O) (key : Key X) where
     spent = refl;
   }
 
-  pub looks : Lawful (meant key.meaning) → (slots id k : ℕ) (me : Me (Home T O) (View X T)) → k < n → 0 < me.0.share → me.0.about ≡ Some key → Allows (OneState meant key) slots id me k (λ x. x) (looked meant (step slots k 0 0 none) me)
+  pub looks : Lawful (meant key.meaning) → (slots id k : ℕ) (me : Me (Home T O) (View X T)) → k < n → 0 < me.0.share → me.0.about ≡ Some key → Allows (OneState meant key) slots id me k (λ x. x) (look_tells meant (step slots k 0 0 none) me)
   looks lawful slots id k me inside some_share about s r deep seat small = let f = get_or s.words k 0 in let w = after_look (Looks k f) k f me.0 in (
     w,
     keeps,
@@ -64,57 +64,55 @@ module _ {X T O : Type 0} (meant : X → Meant T O) (key : Key X) where
     (refl, found_told meant key s r id k me.0 seat lawful inside about),
   )
 
-  pub looks_at_stop : (slots id : ℕ) (me : Me (Home T O) (View X T)) → 0 < me.0.share → Allows (OneState meant key) slots id me n (λ x. x) (looked_at_stop (step slots n 0 0 none) me)
-  looks_at_stop slots id me some_share s r deep seat small = let f = get_or s.words n 0 in let w = after_stop_look f me.0 in let same = set-get_or s.words n 0 in (
-    w,
-    keeps,
-    tt,
-    sees meant key s r id me.0 w (set s.words n f) record {
-      seat = seat;
-      words_long = ap length same;
-      words_same = λ j l. ap (λ ws. get_or ws j 0) same;
-      stop_stays = λ h. ap (λ ws. get_or ws n 0) same ∙ h;
-      stop_small = (let a = ap (λ ws. get_or ws n 0) same in let b = r.stop in omega arith);
-      held = refl;
-      lent = refl;
-      hand = refl;
-      seen = λ j h. inl h;
-      seen_before = λ j h. h;
-      begun = refl;
-      stopped = inl;
-      stopped_before = λ q. q;
-      set_by = λ q. inl (sym (ap (λ ws. get_or ws n 0) same) ∙ q);
-      saw_stop = λ e. ⊎_elim (λ (a : me.0.saw_stop ≡ true). inl a) (λ (a : f ≡ 1). inr (ap (λ ws. get_or ws n 0) same ∙ a)) (marked f me.0.saw_stop e);
-      share = (refl, some_share);
-      spent = refl;
-    },
-    (refl, r.stop, (λ e. (r.views id me.0 seat).stopped e), (λ e. (r.views id me.0 seat).saw_stop e)),
-  )
+  -- a load of the stop word, and the store that sets it
+  pub stop_sight : (s : State (Home T O) (View X T)) (r : OneState meant key s) (id : ℕ) (v : View X T) → 0 < v.share → get_elem? s.views id ≡ some v
+      → Sight meant key s r.at id v (after_stop_look (get_or s.words n 0) v) (set s.words n (get_or s.words n 0))
+  stop_sight s r id v some_share seat = let f = get_or s.words n 0 in let same = set-get_or s.words n 0 in record {
+    seat = seat;
+    words_long = ap length same;
+    words_same = λ j l. ap (λ ws. get_or ws j 0) same;
+    stop_stays = λ h. ap (λ ws. get_or ws n 0) same ∙ h;
+    stop_small = (let a = ap (λ ws. get_or ws n 0) same in let b = r.stop in omega arith);
+    held = refl;
+    lent = refl;
+    hand = refl;
+    seen = λ j h. inl h;
+    seen_before = λ j h. h;
+    begun = refl;
+    stopped = inl;
+    stopped_before = λ q. q;
+    set_by = λ q. inl (sym (ap (λ ws. get_or ws n 0) same) ∙ q);
+    saw_stop = λ e. ⊎_elim (λ (a : v.saw_stop ≡ true). inl a) (λ (a : f ≡ 1). inr (ap (λ ws. get_or ws n 0) same ∙ a)) (marked f v.saw_stop e);
+    share = (refl, some_share);
+    spent = refl;
+  }
 
-  pub stops : (slots id : ℕ) (me : Me (Home T O) (View X T)) → 0 < me.0.share → Allows (OneState meant key) slots id me n (λ _. 1) (λ _. stopped (step slots n 1 0 none) me 1)
+  pub stop_set : (s : State (Home T O) (View X T)) (r : OneState meant key s) (id : ℕ) (v : View X T) → 0 < v.share → get_elem? s.views id ≡ some v
+      → Sight meant key s r.at id v (after_stop v) (set s.words n 1)
+  stop_set s r id v some_share seat = let here : get_or (set s.words n 1) n 0 ≡ 1 = get_or-set_same s.words n 1 0 (let l = r.wide in omega arith) in record {
+    seat = seat;
+    words_long = length-set s.words n 1;
+    words_same = λ j l. get_or-set_other s.words n j 1 0 (λ e. omega arith);
+    stop_stays = λ h. here;
+    stop_small = omega arith;
+    held = refl;
+    lent = refl;
+    hand = refl;
+    seen = λ j h. inl h;
+    seen_before = λ j h. h;
+    begun = refl;
+    stopped = λ e. inr here;
+    stopped_before = λ _. refl;
+    set_by = λ _. inr refl;
+    saw_stop = λ e. inr here;
+    share = (refl, some_share);
+    spent = refl;
+  }
+
+  pub looks_at_stop : (slots id : ℕ) (me : Me (Home T O) (View X T)) → 0 < me.0.share → Allows (OneState meant key) slots id me n (λ x. x) (stop_look_tells (step slots n 0 0 none) me)
+  looks_at_stop slots id me some_share s r deep seat small = let f = get_or s.words n 0 in let w = after_stop_look f me.0 in
+      (w, keeps, tt, sees meant key s r id me.0 w (set s.words n f) (stop_sight s r id me.0 some_share seat), (refl, r.stop, (λ e. (r.views id me.0 seat).stopped e), (λ e. (r.views id me.0 seat).saw_stop e)))
+
+  pub stops : (slots id : ℕ) (me : Me (Home T O) (View X T)) → 0 < me.0.share → Allows (OneState meant key) slots id me n (λ _. 1) (λ _. stop_tells (step slots n 1 0 none) me 1)
   stops slots id me some_share s r deep seat small = let w : View X T = after_stop me.0 in
-      let here : get_or (set s.words n 1) n 0 ≡ 1 = get_or-set_same s.words n 1 0 (let l = r.wide in omega arith) in (
-        w,
-        keeps,
-        tt,
-        sees meant key s r id me.0 w (set s.words n 1) record {
-          seat = seat;
-          words_long = length-set s.words n 1;
-          words_same = λ j l. get_or-set_other s.words n j 1 0 (λ e. omega arith);
-          stop_stays = λ h. here;
-          stop_small = omega arith;
-          held = refl;
-          lent = refl;
-          hand = refl;
-          seen = λ j h. inl h;
-          seen_before = λ j h. h;
-          begun = refl;
-          stopped = λ e. inr here;
-          stopped_before = λ _. refl;
-          set_by = λ _. inr refl;
-          saw_stop = λ e. inr here;
-          share = (refl, some_share);
-          spent = refl;
-        },
-        refl,
-      )
+      (w, keeps, tt, sees meant key s r id me.0 w (set s.words n 1) (stop_set s r id me.0 some_share seat), refl)

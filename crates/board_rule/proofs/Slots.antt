@@ -1,5 +1,5 @@
 -- What a seat has of a piece, and how it takes the slot of one to hand and leaves it. These steps move no word.
-use Rattle.std.proofs.Common.{◌≡◌, ◌≢◌, ℕ, ◌+◌, ◌<◌, List, ◌∷◌, length, get_or, set, sym, refl, ap, ◌∙◌, subst, arith, Bool, true, false, cond, Option, Some, None, length-set}
+use Rattle.std.proofs.Common.{◌≡◌, ◌≢◌, ℕ, ◌+◌, ◌<◌, List, [], ◌∷◌, length, get_or, set, sym, refl, ap, ◌∙◌, subst, arith, Bool, true, false, Option, Some, None, length-set, if◌then◌else◌}
 use mathlib.Core.Option.{some, none}
 use mathlib.Core.Option as maybe
 use lib.Seq.{set-get_or}
@@ -11,7 +11,7 @@ use Rattle.board_rule.specs.Maps.{is_same, is_it}
 use Rattle.board_rule.specs.Standing.{Standing, held, lent, IsSettled, IsBegun, held_by, lent_to, in_hand_of, SeatBelow, word_of, home_of, steps_of, stage_of, IsSound}
 use Rattle.board_rule.specs.Views.{hold_on, with_hand}
 use Rattle.board_rule.specs.Rule.{OneState}
-use Rattle.board_rule.specs.Plays.{took_slot, put_slot_back}
+use Rattle.board_rule.specs.Plays.{take_slot_tells, put_slot_back_tells}
 use Rattle.board_rule.specs.declared.home.Home.{Home}
 use Rattle.board_rule.specs.declared.home.Home.TheVariants.{Empty}
 use Rattle.board_rule.specs.declared.view.Hold.{Hold}
@@ -23,10 +23,10 @@ use Rattle.board_rule.proofs.Standings.{held_view, lent_view, own_hand, other_ha
 use Rattle.board_rule.proofs.Moves.{Change, tells_nothing, moves}
 
 -- the flag of a piece that is with the seat, by what the seat has in hand
-at_home : (hand : Option ℕ) (k : ℕ) (b : Bool) (id : ℕ) → hand ≡ None → is_it hand k ≡ cond b (is_same id id) false → b ≡ false
+at_home : (hand : Option ℕ) (k : ℕ) (b : Bool) (id : ℕ) → hand ≡ None → is_it hand k ≡ (if b then is_same id id else false) → b ≡ false
 at_home hand k b id e h = sym (own_hand id b) ∙ (sym h ∙ ap (λ z. is_it z k) e)
 
-in_hand : (hand : Option ℕ) (k : ℕ) (b : Bool) (id : ℕ) → hand ≡ Some k → is_it hand k ≡ cond b (is_same id id) false → b ≡ true
+in_hand : (hand : Option ℕ) (k : ℕ) (b : Bool) (id : ℕ) → hand ≡ Some k → is_it hand k ≡ (if b then is_same id id else false) → b ≡ true
 in_hand hand k b id e h = sym (own_hand id b) ∙ (sym h ∙ (ap (λ z. is_it z k) e ∙ same_yes k k refl))
 
 module _ {X T O : Type 0} (meant : X → Meant T O) (key : Key X) where
@@ -64,7 +64,7 @@ module _ {X T O : Type 0} (meant : X → Meant T O) (key : Key X) where
     pub stage : stage_of m p' ≡ stage_of m p
     pub steps : steps_of m k p' ≡ steps_of m k p
 
-  of_held : (id k : ℕ) (h : Hold T) (b c : Bool) → Handing id k (held id h b) (held id h c)
+  pub of_held : (id k : ℕ) (h : Hold T) (b c : Bool) → Handing id k (held id h b) (held id h c)
   of_held id k h b c = record {
     word = refl;
     same_marks = ((λ z. z), (λ z. z), (λ z. z), (λ z. z));
@@ -77,7 +77,7 @@ module _ {X T O : Type 0} (meant : X → Meant T O) (key : Key X) where
     steps = refl;
   }
 
-  of_lent : (id k : ℕ) (b c : Bool) → Handing id k (lent id b) (lent id c)
+  pub of_lent : (id k : ℕ) (b c : Bool) → Handing id k (lent id b) (lent id c)
   of_lent id k b c = record {
     word = refl;
     same_marks = ((λ z. z), (λ z. z), (λ z. z), (λ z. z));
@@ -91,10 +91,10 @@ module _ {X T O : Type 0} (meant : X → Meant T O) (key : Key X) where
   }
 
   module _ (id k : ℕ) (v : View X T) (inside : k < m.pieces) (some_share : 0 < v.share) (p p' : Standing T) (d : Handing id k p p') where
-    handing : (s : State (Home T O) (View X T)) (r : OneState meant key s) → get_elem? s.views id ≡ some v → (hand : Option ℕ) (home : maybe.Option (Home T O))
+    pub handing : (s : State (Home T O) (View X T)) (r : OneState meant key s) → get_elem? s.views id ≡ some v → (hand : Option ℕ) (home : maybe.Option (Home T O))
         → r.at k ≡ p → is_it hand k ≡ in_hand_of id p' → ((j : ℕ) → j ≢ k → is_it hand j ≡ is_it v.hand j) → home ≡ home_of m k p'
-        → Change meant key s r.at k id v (with_hand hand v) p p' (set s.words k (get_or s.words k 0)) (set s.homes k home)
-    handing s r seat hand home was here else is = let o = r.pieces k inside in let same = set-get_or s.words k 0 in let mine = r.views id v seat in record {
+        → Change meant key s r.at k id v (with_hand hand v) p p' (set s.words k (get_or s.words k 0)) (set s.homes k home) []
+    handing s r seat hand home was here same_else is = let o = r.pieces k inside in let same = set-get_or s.words k 0 in let mine = r.views id v seat in record {
       was = was;
       inside = inside;
       seat = seat;
@@ -112,7 +112,7 @@ module _ {X T O : Type 0} (meant : X → Meant T O) (key : Key X) where
       lent_here = mine.loans k ∙ (ap (lent_to id) was ∙ sym d.lent);
       lent_else = λ j n. refl;
       hand_here = here;
-      hand_else = else;
+      hand_else = same_else;
       seen = tells_nothing IsSettled k p p' v.seen d.same_marks.0 d.same_marks.1;
       begun = tells_nothing IsBegun k p p' v.begun d.same_marks.2 d.same_marks.3;
       marks = (refl, refl);
@@ -124,7 +124,7 @@ module _ {X T O : Type 0} (meant : X → Meant T O) (key : Key X) where
     -- a seat takes the slot, in which nothing is
     reaching : (slots : ℕ) (c : List (ℕ × Home T O)) → v.hand ≡ None → is_it (Some k) k ≡ in_hand_of id p' → none ≡ home_of m k p' → some Empty ≡ home_of m k p
         → ((s : State (Home T O) (View X T)) (r : OneState meant key s) → get_elem? s.views id ≡ some v → r.at k ≡ p)
-        → Allows (OneState meant key) slots id (v, c) k (λ x. x) (took_slot (step slots k 0 0 none) (v, c))
+        → Allows (OneState meant key) slots id (v, c) k (λ x. x) (take_slot_tells (step slots k 0 0 none) (v, c))
     reaching slots c free here out home was s r deep seat small = (
       with_hand (Some k) v,
       takes k Empty,
@@ -137,7 +137,7 @@ module _ {X T O : Type 0} (meant : X → Meant T O) (key : Key X) where
     -- the slot is left empty
     leaving : (slots : ℕ) (c : List (ℕ × Home T O)) → v.hand ≡ Some k → false ≡ in_hand_of id p' → some Empty ≡ home_of m k p'
         → ((s : State (Home T O) (View X T)) (r : OneState meant key s) → get_elem? s.views id ≡ some v → r.at k ≡ p)
-        → Allows (OneState meant key) slots id (v, (k, Empty) ∷ c) k (λ x. x) (put_slot_back (step slots k 0 0 none) (v, (k, Empty) ∷ c))
+        → Allows (OneState meant key) slots id (v, (k, Empty) ∷ c) k (λ x. x) (put_slot_back_tells (step slots k 0 0 none) (v, (k, Empty) ∷ c))
     leaving slots c full here home was s r deep seat small = (
       with_hand None v,
       gives,
@@ -148,18 +148,18 @@ module _ {X T O : Type 0} (meant : X → Meant T O) (key : Key X) where
     )
 
   module _ (slots id k : ℕ) (v : View X T) (inside : k < m.pieces) (some_share : 0 < v.share) (c : List (ℕ × Home T O)) where
-    pub reaches_held : (h : Hold T) → v.hand ≡ None → hold_on k v.held ≡ Some h → Allows (OneState meant key) slots id (v, c) k (λ x. x) (took_slot (step slots k 0 0 none) (v, c))
+    pub reaches_held : (h : Hold T) → v.hand ≡ None → hold_on k v.held ≡ Some h → Allows (OneState meant key) slots id (v, c) k (λ x. x) (take_slot_tells (step slots k 0 0 none) (v, c))
     reaches_held h free has = reaching id k v inside some_share (held id h false) (held id h true) (of_held id k h false true) slots c free (same_yes k k refl ∙ sym (same_yes id id refl)) refl refl
         (λ s r seat. held_at_home s r id k v seat h free has)
 
-    pub leaves_held : (h : Hold T) → v.hand ≡ Some k → hold_on k v.held ≡ Some h → Allows (OneState meant key) slots id (v, (k, Empty) ∷ c) k (λ x. x) (put_slot_back (step slots k 0 0 none) (v, (k, Empty) ∷ c))
+    pub leaves_held : (h : Hold T) → v.hand ≡ Some k → hold_on k v.held ≡ Some h → Allows (OneState meant key) slots id (v, (k, Empty) ∷ c) k (λ x. x) (put_slot_back_tells (step slots k 0 0 none) (v, (k, Empty) ∷ c))
     leaves_held h full has = leaving id k v inside some_share (held id h true) (held id h false) (of_held id k h true false) slots c full refl refl
         (λ s r seat. held_in_hand s r id k v seat h full has)
 
-    pub reaches_lent : v.hand ≡ None → v.lent ≡ Some k → Allows (OneState meant key) slots id (v, c) k (λ x. x) (took_slot (step slots k 0 0 none) (v, c))
+    pub reaches_lent : v.hand ≡ None → v.lent ≡ Some k → Allows (OneState meant key) slots id (v, c) k (λ x. x) (take_slot_tells (step slots k 0 0 none) (v, c))
     reaches_lent free has = reaching id k v inside some_share (lent id false) (lent id true) (of_lent id k false true) slots c free (same_yes k k refl ∙ sym (same_yes id id refl)) refl refl
         (λ s r seat. lent_at_home s r id k v seat free has)
 
-    pub leaves_lent : v.hand ≡ Some k → v.lent ≡ Some k → Allows (OneState meant key) slots id (v, (k, Empty) ∷ c) k (λ x. x) (put_slot_back (step slots k 0 0 none) (v, (k, Empty) ∷ c))
+    pub leaves_lent : v.hand ≡ Some k → v.lent ≡ Some k → Allows (OneState meant key) slots id (v, (k, Empty) ∷ c) k (λ x. x) (put_slot_back_tells (step slots k 0 0 none) (v, (k, Empty) ∷ c))
     leaves_lent full has = leaving id k v inside some_share (lent id true) (lent id false) (of_lent id k true false) slots c full refl refl
         (λ s r seat. lent_in_hand s r id k v seat full has)

@@ -1,5 +1,5 @@
 -- From a word, or from a seat's view, back to how the piece stands.
-use Rattle.std.proofs.Common.{◌≡◌, ◌≢◌, ◌⊎◌, ℕ, ◌+◌, ◌<◌, ◌≤◌, List, ◌∷◌, sym, refl, ap, ◌∙◌, subst, arith, Bool, true, false, cond, ◌||◌, inl, inr, ⊎_elim, Option, Some, None}
+use Rattle.std.proofs.Common.{◌≡◌, ◌≢◌, ◌⊎◌, ℕ, ◌+◌, ◌<◌, ◌≤◌, List, ◌∷◌, sym, refl, ap, ◌∙◌, subst, arith, Bool, true, false, ◌||◌, inl, inr, ⊎_elim, Option, Some, None, if◌then◌else◌}
 use Rattle.settle_core.specs.Meant.{Meant, Lawful, outcome}
 use Rattle.board_rule.specs.Maps.{is_same, is_it, IsAmong}
 use Rattle.board_rule.specs.Stages.{IsEnded}
@@ -73,11 +73,11 @@ module _ {T O : Type 0} (m : Meant T O) (k : ℕ) where
     steps_within (lent i b) s = omega arith
 
 module _ {T : Type 0} (id : ℕ) where
-  by_seat : (i : ℕ) (g h : Hold T) (b : Bool) → cond (is_same i id) (Some g) None ≡ Some h → (c : Bool) × (◌≡◌ {A = Standing T} (held i g b) (held id h c))
+  by_seat : (i : ℕ) (g h : Hold T) (b : Bool) → (if is_same i id then Some g else None) ≡ Some h → (c : Bool) × (◌≡◌ {A = Standing T} (held i g b) (held id h c))
   by_seat i g h b q = by_same i id
-      (λ (e : i ≡ id). let s : cond (is_same i id) (Some g) None ≡ Some g = ap (λ (z : Bool). cond z (Some g) None) (same_yes i id e) in
+      (λ (e : i ≡ id). let s : (if is_same i id then Some g else None) ≡ Some g = ap (λ (z : Bool). if z then Some g else None) (same_yes i id e) in
       let hs : g ≡ h = (let t : Some g ≡ Some h = sym s ∙ q in cc) in (b, λ j. held (e j) (hs j) b))
-      (λ (n : i ≢ id). let s : cond (is_same i id) (Some g) None ≡ None = ap (λ (z : Bool). cond z (Some g) None) (same_no i id n) in
+      (λ (n : i ≢ id). let s : (if is_same i id then Some g else None) ≡ None = ap (λ (z : Bool). if z then Some g else None) (same_no i id n) in
       let t : None ≡ Some h = sym s ∙ q in absurd cc)
 
   pub held_view : (p : Standing T) (h : Hold T) → held_by id p ≡ Some h → (b : Bool) × (p ≡ held id h b)
@@ -97,18 +97,18 @@ module _ {T : Type 0} (id : ℕ) where
   -- a seat beyond all of the list has nothing of a piece
   pub beyond_seats : (p : Standing T) → SeatBelow id p → (held_by id p ≡ None) × (lent_to id p ≡ false) × (in_hand_of id p ≡ false)
   beyond_seats fresh h = (refl, refl, refl)
-  beyond_seats (held i g true) h = (ap (λ z. cond z (Some g) None) (same_no i id (λ e. omega arith)), refl, same_no i id (λ e. omega arith))
-  beyond_seats (held i g false) h = (ap (λ z. cond z (Some g) None) (same_no i id (λ e. omega arith)), refl, refl)
+  beyond_seats (held i g true) h = (ap (λ z. if z then Some g else None) (same_no i id (λ e. omega arith)), refl, same_no i id (λ e. omega arith))
+  beyond_seats (held i g false) h = (ap (λ z. if z then Some g else None) (same_no i id (λ e. omega arith)), refl, refl)
   beyond_seats (parked t) h = (refl, refl, refl)
   beyond_seats settled h = (refl, refl, refl)
   beyond_seats (lent i true) h = (refl, same_no i id (λ e. omega arith), same_no i id (λ e. omega arith))
   beyond_seats (lent i false) h = (refl, same_no i id (λ e. omega arith), refl)
 
-pub own_hand : (id : ℕ) (b : Bool) → cond b (is_same id id) false ≡ b
+pub own_hand : (id : ℕ) (b : Bool) → (if b then is_same id id else false) ≡ b
 own_hand id true = same_yes id id refl
 own_hand id false = refl
 
-pub other_hand : (id j : ℕ) (b : Bool) → id ≢ j → cond b (is_same id j) false ≡ false
+pub other_hand : (id j : ℕ) (b : Bool) → id ≢ j → (if b then is_same id j else false) ≡ false
 other_hand id j true n = same_no id j n
 other_hand id j false n = refl
 
@@ -120,7 +120,7 @@ pub some_but : (k j : ℕ) (o : Option ℕ) → o ≡ Some k → j ≢ k → is_
 some_but k j o e n = sym (ap (λ z. is_it z j) e ∙ same_no k j (λ q. n (sym q)))
 
 module _ (k w : ℕ) (l : List ℕ) where
-  by_words : (j : ℕ) (a b : Bool) → is_same w 3 ≡ a → is_same w 4 ≡ b → IsAmong j (cond (a || b) (k ∷ l) l) → IsAmong j l ⊎ ((j ≡ k) × ((w ≡ 3) ⊎ (w ≡ 4)))
+  by_words : (j : ℕ) (a b : Bool) → is_same w 3 ≡ a → is_same w 4 ≡ b → IsAmong j (if a || b then k ∷ l else l) → IsAmong j l ⊎ ((j ≡ k) × ((w ≡ 3) ⊎ (w ≡ 4)))
   by_words j true b p q h = ⊎_elim (λ (e : j ≡ k). inr (e, by_same w 3 (λ (z : w ≡ 3). inl z) (λ (n : w ≢ 3). let t : false ≡ true = sym (same_no w 3 n) ∙ p in absurd cc))) (λ (r : IsAmong j l). inl r) h
   by_words j false true p q h = ⊎_elim (λ (e : j ≡ k). inr (e, by_same w 4 (λ (z : w ≡ 4). inr z) (λ (n : w ≢ 4). let t : false ≡ true = sym (same_no w 4 n) ∙ q in absurd cc))) (λ (r : IsAmong j l). inl r) h
   by_words j false false p q h = inl h
@@ -133,19 +133,19 @@ module _ (k w : ℕ) (l : List ℕ) where
   unfolding saw
   saw_before j h = go (is_same w 3 || is_same w 4)
     where
-      go : (b : Bool) → IsAmong j (cond b (k ∷ l) l)
+      go : (b : Bool) → IsAmong j (if b then k ∷ l else l)
       go true = inr h
       go false = h
 
   pub saw_it : (w ≡ 3) ⊎ (w ≡ 4) → IsAmong k (saw k w l)
   unfolding saw
-  saw_it (inl e) = subst (λ (b : Bool). IsAmong k (cond (b || is_same w 4) (k ∷ l) l)) (sym (same_yes w 3 e)) (inl refl)
+  saw_it (inl e) = subst (λ (b : Bool). IsAmong k (if b || is_same w 4 then k ∷ l else l)) (sym (same_yes w 3 e)) (inl refl)
   saw_it (inr e) = go (is_same w 3)
     where
-      go : (b : Bool) → IsAmong k (cond (b || is_same w 4) (k ∷ l) l)
+      go : (b : Bool) → IsAmong k (if b || is_same w 4 then k ∷ l else l)
       go true = inl refl
-      go false = subst (λ (b : Bool). IsAmong k (cond b (k ∷ l) l)) (sym (same_yes w 4 e)) (inl refl)
+      go false = subst (λ (b : Bool). IsAmong k (if b then k ∷ l else l)) (sym (same_yes w 4 e)) (inl refl)
 
   pub saw_none : w ≢ 3 → w ≢ 4 → saw k w l ≡ l
   unfolding saw
-  saw_none a b = ap (λ z. cond (z || is_same w 4) (k ∷ l) l) (same_no w 3 a) ∙ ap (λ z. cond z (k ∷ l) l) (same_no w 4 b)
+  saw_none a b = ap (λ z. if z || is_same w 4 then k ∷ l else l) (same_no w 3 a) ∙ ap (λ z. if z then k ∷ l else l) (same_no w 4 b)

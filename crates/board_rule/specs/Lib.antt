@@ -5,3 +5,4 @@ pub mod Views
 pub mod Rule
 pub mod Plays
 pub mod Shows
+pub mod Kinds

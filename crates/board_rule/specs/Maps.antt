@@ -1,10 +1,10 @@
 -- Lists and functions on numbers, as the rule needs them.
-use Rattle.std.specs.Prelude.{◌≡◌, ◌⊎◌, ℕ, zero, suc, ◌+◌, List, [], ◌∷◌, Bool, false, cond, eqb, Option, Some, None}
+use Rattle.std.specs.Prelude.{◌≡◌, ◌⊎◌, ℕ, zero, suc, ◌+◌, List, [], ◌∷◌, Bool, false, Option, Some, None, if◌then◌else◌, ◌==◌}
 use mathlib.Core.Option.{some}
 use lib.ListN.{get_elem?}
 
 unfoldable pub is_same : ℕ → ℕ → Bool
-is_same m n = eqb m n
+is_same m n = m == n
 
 -- whether the number is there and is k
 abbrev pub is_it : Option ℕ → ℕ → Bool
@@ -18,7 +18,7 @@ IsAmong k (x ∷ xs) = (k ≡ x) ⊎ IsAmong k xs
 module _ {A : Type 0} where
   -- f, but x at k
   unfoldable pub put_at : (ℕ → A) → ℕ → A → ℕ → A
-  put_at f k x j = cond (is_same j k) x (f j)
+  put_at f k x j = if is_same j k then x else f j
 
   -- f 0, .., f (n - 1)
   abbrev pub values : (ℕ → A) → ℕ → List A

@@ -34,10 +34,10 @@ module _ {T O : Type 0} (m : Meant T O) where
   abbrev pub states : (ℕ → Stage) → List (PieceState O)
   states f = values (λ k. state_of k (f k)) m.pieces
 
-  -- Steps of the machine lead there from this state, whatever says what its pieces do next
-  abbrev pub Leads : List (PieceState O) → (ℕ → Stage) → Type 0
-  Leads from f = (next : ℕ → List (ℕ × O) → NextOf O) → IsNext m next → (steps : List CoreStep) × (replayed next from steps ≡ Some (states f))
+  -- These steps of the machine lead from one to the other, whatever says what its pieces do next
+  abbrev pub LeadsBy : List CoreStep → (ℕ → Stage) → (ℕ → Stage) → Type 0
+  LeadsBy steps f g = (next : ℕ → List (ℕ × O) → NextOf O) → IsNext m next → replayed next (states f) steps ≡ Some (states g)
 
-  -- and from the state in which every piece is fresh
+  -- Some steps lead there from the state in which every piece is fresh
   abbrev pub Reached : (ℕ → Stage) → Type 0
-  Reached = Leads (all_fresh m.pieces)
+  Reached f = (next : ℕ → List (ℕ × O) → NextOf O) → IsNext m next → (steps : List CoreStep) × (replayed next (all_fresh m.pieces) steps ≡ Some (states f))

@@ -1,5 +1,5 @@
 -- How a piece stands on the board, and what its word, its home and the views show of it.
-use Rattle.std.specs.Prelude.{◌≡◌, ℕ, ◌+◌, ◌<◌, ◌≤◌, length, slice_index, Bool, false, cond, ltb, Option, Some, None}
+use Rattle.std.specs.Prelude.{◌≡◌, ℕ, ◌+◌, ◌<◌, ◌≤◌, length, slice_index, Bool, false, ltb, Option, Some, None, if◌then◌else◌}
 use mathlib.Core.Option.{some, none}
 use mathlib.Core.Option as maybe
 use Rattle.settle_core.specs.Meant.{Meant, outcome, reads}
@@ -35,7 +35,7 @@ module _ {T : Type 0} where
   -- what the view of the seat id has of the piece: its hold, whether its outcome is lent to it, and whether it has the slot in hand
   abbrev pub held_by : ℕ → Standing T → Option (Hold T)
   held_by id fresh = None
-  held_by id (held i h b) = cond (is_same i id) (Some h) None
+  held_by id (held i h b) = if is_same i id then Some h else None
   held_by id (parked t) = None
   held_by id settled = None
   held_by id (lent i b) = None
@@ -49,10 +49,10 @@ module _ {T : Type 0} where
 
   abbrev pub in_hand_of : ℕ → Standing T → Bool
   in_hand_of id fresh = false
-  in_hand_of id (held i h b) = cond b (is_same i id) false
+  in_hand_of id (held i h b) = if b then is_same i id else false
   in_hand_of id (parked t) = false
   in_hand_of id settled = false
-  in_hand_of id (lent i b) = cond b (is_same i id) false
+  in_hand_of id (lent i b) = if b then is_same i id else false
 
   -- its seat, if it has one, is below n
   abbrev pub SeatBelow : ℕ → Standing T → Type 0
@@ -77,10 +77,10 @@ module _ {T O : Type 0} (m : Meant T O) where
 
   abbrev pub home_of : ℕ → Standing T → maybe.Option (Home T O)
   home_of k fresh = some Empty
-  home_of k (held i h b) = cond b none (some Empty)
+  home_of k (held i h b) = if b then none else some Empty
   home_of k (parked t) = some (Task t)
   home_of k settled = some (Outcome (outcome m k))
-  home_of k (lent i b) = cond b none (some Empty)
+  home_of k (lent i b) = if b then none else some Empty
 
   -- Of a piece that was claimed with this task, or fresh: the steps of its task, how many reads that had taken, and whether it was
   -- advanced

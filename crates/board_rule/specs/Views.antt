@@ -1,5 +1,5 @@
 -- Views: what a seat finds in its own, and how its steps change it.
-use Rattle.std.specs.Prelude.{◌≡◌, ◌⊎◌, ℕ, ◌+◌, ◌-◌, ◌<◌, List, [], ◌∷◌, ◌++◌, true, false, cond, ◌||◌, Option, Some, None, fold}
+use Rattle.std.specs.Prelude.{◌≡◌, ◌⊎◌, ℕ, ◌+◌, ◌-◌, ◌<◌, List, [], ◌∷◌, ◌++◌, true, false, ◌||◌, Option, Some, None, fold, if◌then◌else◌}
 use Rattle.settle_core.specs.Meant.{Meant}
 use Rattle.board_rule.specs.Maps.{is_same, IsAmong}
 use Rattle.board_rule.specs.Standing.{next_read, taken_at}
@@ -13,12 +13,12 @@ module _ {T : Type 0} where
   -- the first hold in the list that is on the piece k
   abbrev pub hold_on : ℕ → List (Hold T) → Option (Hold T)
   hold_on k [] = None
-  hold_on k (h ∷ hs) = cond (is_same h.piece k) (Some h) (hold_on k hs)
+  hold_on k (h ∷ hs) = if is_same h.piece k then Some h else hold_on k hs
 
   -- the list once the piece k was let go
   abbrev pub without : ℕ → List (Hold T) → List (Hold T)
   without k [] = []
-  without k (h ∷ hs) = cond (is_same h.piece k) (without k hs) (h ∷ without k hs)
+  without k (h ∷ hs) = if is_same h.piece k then without k hs else h ∷ without k hs
 
   abbrev pub fresh_hold : ℕ → Hold T
   fresh_hold k = record { piece = k; claimed = None }
@@ -29,7 +29,7 @@ module _ {T : Type 0} where
 
 -- The pieces seen settled: k is one more where its word w is 3 or 4
 unfoldable pub saw : ℕ → ℕ → List ℕ → List ℕ
-saw k w seen = cond (is_same w 3 || is_same w 4) (k ∷ seen) seen
+saw k w seen = if is_same w 3 || is_same w 4 then k ∷ seen else seen
 
 module _ {X T : Type 0} where
   -- A look, or a lost exchange: nothing changes but the trail and what was seen
@@ -94,14 +94,14 @@ Knows {T} m k v = IsAmong k v.seen ⊎ ((p i : ℕ) × (h : Hold T) × (hold_on 
 
 -- Of the looks in a trail since the piece k was last claimed in it, the latest that found a piece unsettled: which piece
 abbrev pub unless_settled : ℕ → ℕ → Option ℕ → Option ℕ
-unless_settled p w before = cond (is_same w 3 || is_same w 4) before (Some p)
+unless_settled p w before = if is_same w 3 || is_same w 4 then before else Some p
 
 abbrev pub unsettled_after : {T : Type 0} → ℕ → Option ℕ → Entry T → Option ℕ
 unsettled_after k before (Looks p w) = unless_settled p w before
 unsettled_after k before (LooksAtStop w) = before
-unsettled_after k before (ClaimsFresh p w true) = cond (is_same p k) None before
+unsettled_after k before (ClaimsFresh p w true) = if is_same p k then None else before
 unsettled_after k before (ClaimsFresh p w false) = unless_settled p w before
-unsettled_after k before (ClaimsParked p w true) = cond (is_same p k) None before
+unsettled_after k before (ClaimsParked p w true) = if is_same p k then None else before
 unsettled_after k before (ClaimsParked p w false) = unless_settled p w before
 unsettled_after k before (Settles p) = before
 unsettled_after k before (Parks p w t) = before

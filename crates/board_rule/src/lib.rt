@@ -10,7 +10,7 @@ mod view;
 
 pub use home::Home;
 pub use law::Law;
-pub use laws::every_board_is_one_sound_state;
+pub use laws::{each_step_is_the_machines, every_board_is_one_sound_state};
 pub use plays::{
     ClaimFresh, ClaimParked, Cut, GiveBack, LendStep, Look, LookAtStop, Merge, Park, PutSlotBack,
     Settle, Stop, TakeSlot,

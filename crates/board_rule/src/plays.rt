@@ -1,6 +1,6 @@
 //! What each step on the table tells the seat that makes it.
 
-ghost use Rattle.board_rule.specs.Plays.{looked, looked_at_stop, stopped, claimed_fresh, took_slot, put_slot_back, gave_back, settled, parked, claimed_parked, lent};
+ghost use Rattle.board_rule.specs.Plays.{look_tells, stop_look_tells, stop_tells, start_tells, take_slot_tells, put_slot_back_tells, give_back_tells, settle_tells, park_tells, resume_tells, lend_tells};
 ghost use Rattle.board_rule.specs.Views.{with_less, newcomer, joined, gone};
 
 use crate::home::Home;
@@ -12,77 +12,77 @@ use settle_core::Meaning;
 pub struct Look;
 
 impl<M: Meaning> Play<Home<M::Task, M::Outcome>, View<M, M::Task>> for Look {
-    ghost then = { looked (λ x. M.meant x) };
+    ghost then = { look_tells (λ x. M.meant x) };
 }
 
 /// A load of the stop word.
 pub struct LookAtStop;
 
 impl<T, O, X> Play<Home<T, O>, View<X, T>> for LookAtStop {
-    ghost then = { looked_at_stop };
+    ghost then = { stop_look_tells };
 }
 
 /// The store that sets the stop word.
 pub struct Stop;
 
 impl<T, O, X> Play<Home<T, O>, View<X, T>> for Stop {
-    ghost then = { stopped };
+    ghost then = { stop_tells };
 }
 
 /// An exchange of 0 for 1.
 pub struct ClaimFresh;
 
 impl<T, O, X> Play<Home<T, O>, View<X, T>> for ClaimFresh {
-    ghost then = { claimed_fresh };
+    ghost then = { start_tells };
 }
 
 /// An exchange of the word of a parked piece for 1. The slot comes to hand with the task.
 pub struct ClaimParked;
 
 impl<M: Meaning> Play<Home<M::Task, M::Outcome>, View<M, M::Task>> for ClaimParked {
-    ghost then = { claimed_parked (λ x. M.meant x) };
+    ghost then = { resume_tells (λ x. M.meant x) };
 }
 
 /// A load by which a seat takes the empty slot of a piece that it has.
 pub struct TakeSlot;
 
 impl<T, O, X> Play<Home<T, O>, View<X, T>> for TakeSlot {
-    ghost then = { took_slot };
+    ghost then = { take_slot_tells };
 }
 
 /// A load by which a seat leaves the emptied slot of a piece that it has.
 pub struct PutSlotBack;
 
 impl<T, O, X> Play<Home<T, O>, View<X, T>> for PutSlotBack {
-    ghost then = { put_slot_back };
+    ghost then = { put_slot_back_tells };
 }
 
 /// The store of 3 that settles a piece.
 pub struct Settle;
 
 impl<M: Meaning> Play<Home<M::Task, M::Outcome>, View<M, M::Task>> for Settle {
-    ghost then = { settled (λ x. M.meant x) };
+    ghost then = { settle_tells (λ x. M.meant x) };
 }
 
 /// The store of 8 and the piece that is waited for.
 pub struct Park;
 
 impl<M: Meaning> Play<Home<M::Task, M::Outcome>, View<M, M::Task>> for Park {
-    ghost then = { parked (λ x. M.meant x) };
+    ghost then = { park_tells (λ x. M.meant x) };
 }
 
 /// An exchange of 3 for 4. The slot comes to hand with the outcome.
 pub struct LendStep;
 
 impl<M: Meaning> Play<Home<M::Task, M::Outcome>, View<M, M::Task>> for LendStep {
-    ghost then = { lent (λ x. M.meant x) };
+    ghost then = { lend_tells (λ x. M.meant x) };
 }
 
 /// The store of 3 that gives an outcome back.
 pub struct GiveBack;
 
 impl<T, O, X> Play<Home<T, O>, View<X, T>> for GiveBack {
-    ghost then = { gave_back };
+    ghost then = { give_back_tells };
 }
 
 /// One seat is cut off from the share of another.

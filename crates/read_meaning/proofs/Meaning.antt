@@ -1,6 +1,6 @@
 -- The meaning that trees of pieces make is lawful, and says what comes next.
 use Rattle.std.proofs.Common.{◌^◌, ◌≡◌, ◌≢◌, ℕ, ◌+◌, ◌<◌, ◌≤◌, List, length, get_or, slice_get, Some, None, refl, sym, ap, ◌∙◌, subst, arith}
-use Rattle.settle_core.specs.Meant.{Meant, Lawful, fold, outcome, reads}
+use Rattle.settle_core.specs.Meant.{Meant, Lawful, outcomes_below, outcome, reads}
 use Rattle.settle_core.specs.declared.next_of.NextOf.TheVariants.{Read, Ends}
 use Rattle.settle_core.specs.Next.{IsNext, firsts, taken_outcome}
 use Rattle.settle_core.proofs.Folds.{fold_at, fold_length}
@@ -16,10 +16,10 @@ use Rattle.read_meaning.proofs.Taken.{slice_is, one_of_firsts, none_of_firsts, a
 module _ {O B : Type 0} (d : Defined O B) (k : ℕ) where
   -- the outcomes before k in the fold
   abbrev before : Facts O
-  before = slice_get (fold (plain d) k)
+  before = slice_get (outcomes_below (plain d) k)
 
   known : (j : ℕ) → j < k → before j ≡ Some (outcome (plain d) j)
-  known j l = slice_is (fold (plain d) k) j (d.finish d.broken 0) (let e = fold_length (plain d) k in omega arith) ∙ ap Some (fold_at (plain d) k j (d.finish d.broken 0) l)
+  known j l = slice_is (outcomes_below (plain d) k) j (d.finish d.broken 0) (let e = fold_length (plain d) k in omega arith) ∙ ap Some (fold_at (plain d) k j (d.finish d.broken 0) l)
 
   pub outcome_is : outcome (plain d) k ≡ outcome_of d (run before (tree d k))
   unfolding outcome
@@ -74,7 +74,7 @@ module _ {O B : Type 0} (d : Defined O B) where
   steps_of (Ended b m) n = let e = d.counted b (n + m) in omega arith
   steps_of (Lacks j m) n = let e = d.counted d.broken (n + m) in omega arith
 
-  firsts_agree : (k n : ℕ) → Agrees (taken_outcome (firsts (plain d) k n)) (slice_get (fold (plain d) k))
+  firsts_agree : (k n : ℕ) → Agrees (taken_outcome (firsts (plain d) k n)) (slice_get (outcomes_below (plain d) k))
   firsts_agree k n j o e = let r = among_firsts (outcome (plain d)) (reads (plain d) k) n j o e in known d k j (subst (λ x. x < k) r.2 (lower d k r.0 r.1)) ∙ ap Some (sym r.3)
 
   module _ {T : Type 0} (list : T → List (ℕ × O)) (steps : T → ℕ) (Left : ℕ → T → Closed O B → Type 0) where
@@ -93,11 +93,11 @@ module _ {O B : Type 0} (d : Defined O B) where
     unfolding outcome reads
     plays_by = record { untaken = λ k j taken l e. untaken d k j taken e; reads_next = λ k n l w. reads_next d k n w; ends_with = λ k l. ends_with d k }
 
-    task_agrees : (k : ℕ) (t : T) → IsTask d list steps Left k t → Agrees (taken_outcome (list t)) (slice_get (fold (plain d) k))
-    task_agrees k t h = subst (λ ts. Agrees (taken_outcome ts) (slice_get (fold (plain d) k))) (sym h.prefix) (firsts_agree k (length (list t)))
+    task_agrees : (k : ℕ) (t : T) → IsTask d list steps Left k t → Agrees (taken_outcome (list t)) (slice_get (outcomes_below (plain d) k))
+    task_agrees k t h = subst (λ ts. Agrees (taken_outcome ts) (slice_get (outcomes_below (plain d) k))) (sym h.prefix) (firsts_agree k (length (list t)))
 
     cheap : (k : ℕ) (t : T) → IsTask d list steps Left k t → steps t ≤ d.steps (outcome meant k)
-    cheap k t h = let F = slice_get (fold (plain d) k) in
+    cheap k t h = let F = slice_get (outcomes_below (plain d) k) in
         let w = walks_more (taken_outcome (list t)) F (task_agrees k t h) (tree d k) h.rest (steps t) h.walks in
         subst (λ o. steps t ≤ d.steps o) (sym (same_outcome k ∙ outcome_is d k ∙ ap (outcome_of d) (run_walks F (tree d k) h.rest (steps t) w))) (steps_of (run F h.rest) (steps t))
 

@@ -1,7 +1,7 @@
 -- The meaning computed for four small pieces: 0 comes to 5 in two steps; 1 reads 0 and adds 10; 2 reads 1 and 0, and 1 once more; 3 reads
 -- itself. An outcome is a number with its steps, and 0 is the end of a piece that reads one which is not before it.
 use Rattle.std.proofs.Common.{◌≡◌, ℕ, zero, suc, ◌+◌, [], ◌∷◌, refl}
-use Rattle.settle_core.specs.Meant.{fold, reads}
+use Rattle.settle_core.specs.Meant.{outcomes_below, reads}
 use Rattle.settle_core.specs.declared.next_of.NextOf.TheVariants.{Read, Ends}
 use Rattle.read_trees.specs.Trees.{Goes, Pays, Reads, pays}
 use Rattle.read_trees.specs.Runs.{Closed}
@@ -16,7 +16,7 @@ piece_of k = Pays (Reads k (λ a. Goes 1))
 abbrev four : Defined (ℕ × ℕ) ℕ
 four = record { pieces = 4; piece = piece_of; broken = 0; finish = λ b n. (b, n); steps = λ o. o.1; counted = λ b n. refl }
 
-four_in_order : fold (plain four) 4 ≡ (5, 2) ∷ (15, 1) ∷ (35, 1) ∷ (0, 1) ∷ []
+four_in_order : outcomes_below (plain four) 4 ≡ (5, 2) ∷ (15, 1) ∷ (35, 1) ∷ (0, 1) ∷ []
 four_in_order = refl
 
 -- each piece that is read stands once, where it is first read; a piece that is not before the reader is not read

@@ -1,320 +1,188 @@
--- What the calls mean for a caller, said of plain views: how each changes the view, what is then seen, what the last piece seen
--- unsettled is, and when a task has seen its reads.
-use Rattle.std.proofs.Common.{◌≡◌, ◌≢◌, ◌⊎◌, ℕ, ◌+◌, ◌<◌, ◌≤◌, List, [], ◌∷◌, ◌++◌, sym, refl, ap, ◌∙◌, subst, arith, IsSome, is_some, Bool, true, false, cond, ◌||◌, inl, inr, ⊎_elim, Option, Some, None, append_assoc, append-nil}
+-- What the calls mean for a caller, said of plain views. One lemma for each answer: what the view became, what it knows then, and which
+-- piece it saw unsettled last.
+use Rattle.std.proofs.Common.{◌≡◌, ◌≢◌, ◌⊎◌, ℕ, ◌+◌, ◌<◌, ◌≤◌, List, [], ◌∷◌, ◌++◌, sym, refl, ap, ◌∙◌, subst, arith, IsSome, is_some, Bool, true, false, ◌||◌, inl, inr, ⊎_elim, Option, Some, None, append_assoc, if◌then◌else◌}
 use Rattle.std.proofs.lemmas.List.Sums.{fold_push}
 use Rattle.cxx_base.specs.declared.number.PieceNo.{PieceNo}
 use Rattle.settle_core.specs.Meant.{Meant}
 use Rattle.board_rule.specs.Maps.{is_same, IsAmong}
 use Rattle.board_rule.specs.Standing.{next_read, taken_at}
-use Rattle.board_rule.specs.Views.{hold_on, without, fresh_hold, task_hold, after_look, after_stop_look, after_stop, after_settle, after_park, after_lend, after_give_back, Knows, unless_settled, unsettled_after, last_unsettled}
+use Rattle.board_rule.specs.Views.{hold_on, without, fresh_hold, task_hold, after_look, after_stop_look, after_start, after_claim, after_settle, after_park, after_lend, after_give_back, Knows, unless_settled, unsettled_after, last_unsettled}
 use Rattle.board_rule.specs.declared.view.Hold.{Hold}
 use Rattle.board_rule.specs.declared.view.View.{View}
 use Rattle.board_rule.specs.declared.view.Entry.{Entry}
-use Rattle.board_rule.specs.declared.view.Entry.TheVariants.{Looks, LooksAtStop, ClaimsFresh, ClaimsParked, Settles, Parks, Lends, GivesBack, Stops}
-use Rattle.board_rule.proofs.Maps.{by_same, same_yes, same_no, hold_here}
+use Rattle.board_rule.specs.declared.view.Entry.TheVariants.{Looks, LooksAtStop, ClaimsFresh, ClaimsParked, Settles, Parks, Lends, GivesBack}
+use Rattle.board_rule.proofs.Maps.{same_yes, same_no, hold_here}
 use Rattle.board_rule.proofs.Standings.{saw_before, saw_it}
 use Rattle.settle_board.specs.Boards.{HasSeen}
 use Rattle.settle_board.specs.Answers.{ClaimSays, LendSays}
-use Rattle.settle_board.specs.Changes.{Becomes, TurnsAway, IsWithin, IsTurnedAway, AllTurnAway}
+use Rattle.settle_board.specs.Changes.{Becomes, IsSettledWord, TurnsAway, by_hold, by_outcome, by_rival, by_rival_resume, by_park}
 use Rattle.settle_board.specs.declared.answers.Claim.TheVariants.{Start, Resume, NotNow, StillParked}
 use Rattle.settle_board.specs.declared.answers.Lend.TheVariants.{Got, NotSettled, Busy}
 
+-- the last piece seen unsettled is another, or the same
 module _ {X T : Type 0} where
-  -- nothing was done
-  pub begin : (v : View X T) → Becomes v.held v.lent 0 [] v v
-  begin v = record { about = refl; share = refl; stopped = refl; saw_stop = λ e. e; holds = refl; loan = refl; spent = omega arith; begun = λ j h. h; seen = λ j h. h; trail = sym (append-nil v.trail) }
+  abbrev pub SawUnsettled : ℕ → View X T → Type 0
+  SawUnsettled j w = (p : ℕ) → last_unsettled p w.trail ≡ Some j
 
-  -- one change after the other
-  pub then : (held held' : List (Hold T)) (lent lent' : Option ℕ) (a b : ℕ) (p q : List (Entry T)) (u v w : View X T) → Becomes held lent a p u v → Becomes held' lent' b q v w → Becomes held' lent' (a + b) (p ++ q) u w
-  then held held' lent lent' a b p q u v w f g = record {
-    about = g.about ∙ f.about;
-    share = g.share ∙ f.share;
-    stopped = g.stopped ∙ f.stopped;
-    saw_stop = λ e. g.saw_stop (f.saw_stop e);
+  abbrev pub SawNoneMore : View X T → View X T → Type 0
+  SawNoneMore v w = (p : ℕ) → last_unsettled p w.trail ≡ last_unsettled p v.trail
+
+-- after one step more
+last_more : {T : Type 0} (k : ℕ) (trail : List (Entry T)) (e : Entry T) → last_unsettled k (trail ++ e ∷ []) ≡ unsettled_after k (last_unsettled k trail) e
+last_more k trail e = fold_push (unsettled_after k) None trail e
+
+unless_open : (p r : ℕ) (before : Option ℕ) → r ≢ 3 → r ≢ 4 → unless_settled p r before ≡ Some p
+unless_open p r before a b = ap (λ t. if t || is_same r 4 then before else Some p) (same_no r 3 a) ∙ ap (λ t. if t then before else Some p) (same_no r 4 b)
+
+either_true : (a b : Bool) → b ≡ true → (a || b) ≡ true
+either_true true b e = refl
+either_true false b e = e
+
+-- How a view grows: by one change after the other, and by each kind of step
+module _ {X T : Type 0} where
+  in_turn : (held held' : List (Hold T)) (lent lent' : Option ℕ) (a b : ℕ) (p q : List (Entry T)) (u v w : View X T) → Becomes held lent a p u v → Becomes held' lent' b q v w → Becomes held' lent' (a + b) (p ++ q) u w
+  in_turn held held' lent lent' a b p q u v w f g = record {
+    same = (g.same.0 ∙ f.same.0, g.same.1 ∙ f.same.1, g.same.2 ∙ f.same.2);
+    knows = ((λ j h. g.knows.0 j (f.knows.0 j h)), (λ j h. g.knows.1 j (f.knows.1 j h)), (λ e. g.knows.2 (f.knows.2 e)));
     holds = g.holds;
     loan = g.loan;
     spent = (let x = f.spent in let y = g.spent in omega arith);
-    begun = λ j h. g.begun j (f.begun j h);
-    seen = λ j h. g.seen j (f.seen j h);
     trail = g.trail ∙ (ap (λ t. t ++ q) f.trail ∙ append_assoc u.trail p q);
   }
 
-  -- a look, or an exchange that is lost
+  -- a change after which the holds and the loan are as they were, and then another
+  pub then_more : (held : List (Hold T)) (lent : Option ℕ) (steps : ℕ) (p q : List (Entry T)) (u v w : View X T) → Becomes u.held u.lent 0 p u v → Becomes held lent steps q v w → Becomes held lent steps (p ++ q) u w
+  then_more held lent steps p q u v w f g = let e : 0 + steps ≡ steps = omega arith in subst (λ n. Becomes held lent n (p ++ q) u w) e (in_turn u.held held u.lent lent 0 steps p q u v w f g)
+
+  module _ (v : View X T) where
+    look_becomes : (e : Entry T) (k r : ℕ) → Becomes v.held v.lent 0 (e ∷ []) v (after_look e k r v)
+    look_becomes e k r = record { same = (refl, refl, refl); knows = ((λ j h. h), saw_before k r v.seen, (λ q. q)); holds = refl; loan = refl; spent = omega arith; trail = refl }
+
+    stop_look_becomes : (r : ℕ) → Becomes v.held v.lent 0 (LooksAtStop r ∷ []) v (after_stop_look r v)
+    stop_look_becomes r = record { same = (refl, refl, refl); knows = ((λ j h. h), (λ j h. h), either_true (is_same r 1) v.saw_stop); holds = refl; loan = refl; spent = omega arith; trail = refl }
+
+    start_becomes : (k : ℕ) → Becomes (fresh_hold k ∷ v.held) v.lent 0 (ClaimsFresh k 0 true ∷ []) v (after_start k v)
+    start_becomes k = record { same = (refl, refl, refl); knows = ((λ j h. inr h), (λ j h. h), (λ q. q)); holds = refl; loan = refl; spent = omega arith; trail = refl }
+
+    claim_becomes : (e : Entry T) (h : Hold T) → Becomes (h ∷ v.held) v.lent 0 (e ∷ []) v (after_claim e h v)
+    claim_becomes e h = record { same = (refl, refl, refl); knows = ((λ j s. s), (λ j s. s), (λ q. q)); holds = refl; loan = refl; spent = omega arith; trail = refl }
+
+    lend_becomes : (k : ℕ) → Becomes v.held (Some k) 0 (Lends k 3 true ∷ []) v (after_lend k v)
+    lend_becomes k = record { same = (refl, refl, refl); knows = ((λ j s. s), (λ j s. inr s), (λ q. q)); holds = refl; loan = refl; spent = omega arith; trail = refl }
+
+    give_becomes : (k : ℕ) → Becomes v.held None 0 (GivesBack k ∷ []) v (after_give_back k v)
+    give_becomes k = record { same = (refl, refl, refl); knows = ((λ j s. s), (λ j s. s), (λ q. q)); holds = refl; loan = refl; spent = omega arith; trail = refl }
+
+    settle_becomes : (k steps : ℕ) → Becomes (without k v.held) v.lent steps (Settles k ∷ []) v (after_settle k steps v)
+    settle_becomes k steps = record { same = (refl, refl, refl); knows = ((λ j s. s), (λ j s. inr s), (λ q. q)); holds = refl; loan = refl; spent = refl; trail = refl }
+
+    park_becomes : (k word : ℕ) (t : T) (steps : ℕ) → Becomes (without k v.held) v.lent steps (Parks k word t ∷ []) v (after_park k word t steps v)
+    park_becomes k word t steps = record { same = (refl, refl, refl); knows = ((λ j s. s), (λ j s. s), (λ q. q)); holds = refl; loan = refl; spent = refl; trail = refl }
+
+  -- a view that is another
+  at : (held : List (Hold T)) (lent : Option ℕ) (steps : ℕ) (part : List (Entry T)) (v u w : View X T) → w ≡ u → Becomes held lent steps part v u → Becomes held lent steps part v w
+  at held lent steps part v u w e b = subst (λ (x : View X T). Becomes held lent steps part v x) (sym e) b
+
+  -- Looks, and exchanges that are lost
   module _ (e : Entry T) (k r : ℕ) (v w : View X T) (is : w ≡ after_look e k r v) where
     pub looks : Becomes v.held v.lent 0 (e ∷ []) v w
-    looks = record {
-      about = ap (λ x. x.about) is;
-      share = ap (λ x. x.share) is;
-      stopped = ap (λ x. x.stopped) is;
-      saw_stop = λ q. ap (λ x. x.saw_stop) is ∙ q;
-      holds = ap (λ x. x.held) is;
-      loan = ap (λ x. x.lent) is;
-      spent = (let h = ap (λ x. x.spent) is in omega arith);
-      begun = λ j h. subst (IsAmong j) (sym (ap (λ x. x.begun) is)) h;
-      seen = λ j h. subst (IsAmong j) (sym (ap (λ x. x.seen) is)) (saw_before k r v.seen j h);
-      trail = ap (λ x. x.trail) is;
-    }
+    looks = at v.held v.lent 0 (e ∷ []) v (after_look e k r v) w is (look_becomes v e k r)
 
-    pub sees_settled : (r ≡ 3) ⊎ (r ≡ 4) → IsAmong k w.seen
-    sees_settled h = subst (IsAmong k) (sym (ap (λ x. x.seen) is)) (saw_it k r v.seen h)
+    pub sees_settled : IsSettledWord r → IsAmong k w.seen
+    sees_settled h = subst (λ (x : View X T). IsAmong k x.seen) (sym is) (saw_it k r v.seen h)
 
--- whether to stop
-pub looks_at_stop : {X T : Type 0} (r : ℕ) (v w : View X T) → w ≡ after_stop_look r v → Becomes v.held v.lent 0 (LooksAtStop r ∷ []) v w
-looks_at_stop r v w is = record {
-  about = ap (λ x. x.about) is;
-  share = ap (λ x. x.share) is;
-  stopped = ap (λ x. x.stopped) is;
-  saw_stop = λ q. ap (λ x. x.saw_stop) is ∙ either_true (is_same r 1) v.saw_stop q;
-  holds = ap (λ x. x.held) is;
-  loan = ap (λ x. x.lent) is;
-  spent = (let h = ap (λ x. x.spent) is in omega arith);
-  begun = λ j h. subst (IsAmong j) (sym (ap (λ x. x.begun) is)) h;
-  seen = λ j h. subst (IsAmong j) (sym (ap (λ x. x.seen) is)) h;
-  trail = ap (λ x. x.trail) is;
-}
-  where
-    either_true : (a b : Bool) → b ≡ true → (a || b) ≡ true
-    either_true true b e = refl
-    either_true false b e = e
-
--- That the stop word is set. The view becomes what it would from one that had set it before
-pub stops : {X T : Type 0} (v w : View X T) → w ≡ after_stop v → Becomes v.held v.lent 0 (Stops ∷ []) (record v { stopped = true }) w × (w.stopped ≡ true) × (w.saw_stop ≡ true)
-stops v w is = (
-  record {
-    about = ap (λ x. x.about) is;
-    share = ap (λ x. x.share) is;
-    stopped = ap (λ x. x.stopped) is;
-    saw_stop = λ _. ap (λ x. x.saw_stop) is;
-    holds = ap (λ x. x.held) is;
-    loan = ap (λ x. x.lent) is;
-    spent = (let h = ap (λ x. x.spent) is in omega arith);
-    begun = λ j h. subst (IsAmong j) (sym (ap (λ x. x.begun) is)) h;
-    seen = λ j h. subst (IsAmong j) (sym (ap (λ x. x.seen) is)) h;
-    trail = ap (λ x. x.trail) is;
-  },
-  ap (λ x. x.stopped) is,
-  ap (λ x. x.saw_stop) is,
-)
-
--- a look at the stop word that found it set
-pub sees_stop : {X T : Type 0} (r : ℕ) (v w : View X T) → r ≡ 1 → w ≡ after_stop_look r v → w.saw_stop ≡ true
-sees_stop r v w e is = ap (λ x. x.saw_stop) is ∙ ap (λ b. b || v.saw_stop) (same_yes r 1 e)
-
-unless_open : (p r : ℕ) (before : Option ℕ) → r ≢ 3 → r ≢ 4 → unless_settled p r before ≡ Some p
-unless_open p r before a b = ap (λ t. cond (t || is_same r 4) before (Some p)) (same_no r 3 a) ∙ ap (λ t. cond t before (Some p)) (same_no r 4 b)
-
-unless_closed : (p r : ℕ) (before : Option ℕ) → (r ≡ 3) ⊎ (r ≡ 4) → unless_settled p r before ≡ before
-unless_closed p r before (inl e) = ap (λ t. cond (t || is_same r 4) before (Some p)) (same_yes r 3 e)
-unless_closed p r before (inr e) = go (is_same r 3)
-  where
-    go : (b : Bool) → cond (b || is_same r 4) before (Some p) ≡ before
-    go true = refl
-    go false = ap (λ t. cond t before (Some p)) (same_yes r 4 e)
-
--- the last piece seen unsettled, after one step more
-pub last_more : {T : Type 0} (k : ℕ) (trail : List (Entry T)) (e : Entry T) → last_unsettled k (trail ++ e ∷ []) ≡ unsettled_after k (last_unsettled k trail) e
-last_more k trail e = fold_push (unsettled_after k) None trail e
-
--- A won claim begins anew: nothing was seen unsettled since
-module _ {X T O : Type 0} (m : Meant T O) (k : ℕ) (v w : View X T) where
-  pub start_waits : ClaimSays m k v Start w → last_unsettled k w.trail ≡ None
-  start_waits h = let u = after_look (Looks k 0) k 0 v in ap (λ x. last_unsettled k x.trail) h ∙ (last_more k u.trail (ClaimsFresh k 0 true) ∙ ap (λ b. cond b None (last_unsettled k u.trail)) (same_yes k k refl))
-
-  pub resume_waits : (t : T) → ClaimSays m k v (Resume t) w → last_unsettled k w.trail ≡ None
-  resume_waits t h = let on = next_read m k (m.taken t) in let u = after_look (Looks on h.1) on h.1 (after_look (Looks k (8 + on)) k (8 + on) v) in
-      ap (λ x. last_unsettled k x.trail) h.3 ∙ (last_more k u.trail (ClaimsParked k (8 + on) true) ∙ ap (λ b. cond b None (last_unsettled k u.trail)) (same_yes k k refl))
-
--- steps that end a hold, those that begin or end a loan, those on the stop word, and a look that finds a piece settled see nothing
--- unsettled
-module _ {X T : Type 0} (k p : ℕ) (v w : View X T) where
-  pub settle_waits : (steps : ℕ) → w ≡ after_settle k steps v → last_unsettled p w.trail ≡ last_unsettled p v.trail
-  settle_waits steps is = ap (λ x. last_unsettled p x.trail) is ∙ last_more p v.trail (Settles k)
-
-  pub park_waits : (word : ℕ) (t : T) (steps : ℕ) → w ≡ after_park k word t steps v → last_unsettled p w.trail ≡ last_unsettled p v.trail
-  park_waits word t steps is = ap (λ x. last_unsettled p x.trail) is ∙ last_more p v.trail (Parks k word t)
-
-  pub loan_waits : w ≡ after_lend k v → last_unsettled p w.trail ≡ last_unsettled p v.trail
-  loan_waits is = ap (λ x. last_unsettled p x.trail) is ∙ last_more p v.trail (Lends k 3 true)
-
-  pub give_waits : w ≡ after_give_back k v → last_unsettled p w.trail ≡ last_unsettled p v.trail
-  give_waits is = ap (λ x. last_unsettled p x.trail) is ∙ last_more p v.trail (GivesBack k)
-
-  pub stop_waits : w ≡ after_stop v → last_unsettled p w.trail ≡ last_unsettled p v.trail
-  stop_waits is = ap (λ x. last_unsettled p x.trail) is ∙ last_more p v.trail Stops
-
-  pub stop_look_waits : (r : ℕ) → w ≡ after_stop_look r v → last_unsettled p w.trail ≡ last_unsettled p v.trail
-  stop_look_waits r is = ap (λ x. last_unsettled p x.trail) is ∙ last_more p v.trail (LooksAtStop r)
-
-  pub settled_look_waits : (r : ℕ) → (r ≡ 3) ⊎ (r ≡ 4) → w ≡ after_look (Looks k r) k r v → last_unsettled p w.trail ≡ last_unsettled p v.trail
-  settled_look_waits r d is = ap (λ x. last_unsettled p x.trail) is ∙ (last_more p v.trail (Looks k r) ∙ unless_closed k r (last_unsettled p v.trail) d)
-
-module _ {X T : Type 0} (k p r : ℕ) (v w : View X T) (a : r ≢ 3) (b : r ≢ 4) where
-  pub look_waits : w ≡ after_look (Looks p r) p r v → last_unsettled k w.trail ≡ Some p
-  look_waits is = ap (λ x. last_unsettled k x.trail) is ∙ (last_more k v.trail (Looks p r) ∙ unless_open p r (last_unsettled k v.trail) a b)
-
-  pub lend_waits : w ≡ after_look (Lends p r false) p r v → last_unsettled k w.trail ≡ Some p
-  lend_waits is = ap (λ x. last_unsettled k x.trail) is ∙ (last_more k v.trail (Lends p r false) ∙ unless_open p r (last_unsettled k v.trail) a b)
-
--- A claim that is turned away saw last unsettled what its piece is parked on, or the piece itself. One that found the piece settled
--- saw the piece unsettled before that, or nothing
-module _ {X T O : Type 0} (m : Meant T O) (k p : ℕ) (v w : View X T) where
-  pub still_waits : (on : PieceNo) (found : ℕ) → ClaimSays m k v (StillParked on found) w → last_unsettled p w.trail ≡ Some on.0
-  still_waits on found h = look_waits p on.0 found (after_look (Looks k (8 + on.0)) k (8 + on.0) v) w h.2 h.3 h.0
-
-  pub not_now_waits : (r : ℕ) → r ≢ 3 → r ≢ 4 → ClaimSays m k v (NotNow r) w → last_unsettled p w.trail ≡ Some k
-  not_now_waits r a b (z, inl h) = look_waits p k r v w a b h.0
-  not_now_waits r a b (z, inr (inl h)) = let u = after_look (Looks k 0) k 0 v in
-      ap (λ x. last_unsettled p x.trail) h.0 ∙ (last_more p u.trail (ClaimsFresh k r false) ∙ unless_open k r (last_unsettled p u.trail) a b)
-  not_now_waits r a b (z, inr (inr h)) = let u = after_look (Looks h.0 h.1) h.0 h.1 (after_look (Looks k (8 + h.0)) k (8 + h.0) v) in
-      ap (λ x. last_unsettled p x.trail) h.2 ∙ (last_more p u.trail (ClaimsParked k r false) ∙ unless_open k r (last_unsettled p u.trail) a b)
-
-  pub not_now_settled : (r : ℕ) → (r ≡ 3) ⊎ (r ≡ 4) → ClaimSays m k v (NotNow r) w → (last_unsettled p w.trail ≡ Some k) ⊎ (last_unsettled p w.trail ≡ last_unsettled p v.trail)
-  not_now_settled r d (z, inl h) = inr (settled_look_waits k p v w r d h.0)
-  not_now_settled r d (z, inr (inl h)) = let u = after_look (Looks k 0) k 0 v in
-      inl (ap (λ x. last_unsettled p x.trail) h.0 ∙ (last_more p u.trail (ClaimsFresh k r false) ∙ (unless_closed k r (last_unsettled p u.trail) d
-      ∙ look_waits p k 0 v u (λ e. omega arith) (λ e. omega arith) refl)))
-  not_now_settled r d (z, inr (inr h)) = let t = after_look (Looks k (8 + h.0)) k (8 + h.0) v in let u = after_look (Looks h.0 h.1) h.0 h.1 t in
-      inl (ap (λ x. last_unsettled p x.trail) h.2 ∙ (last_more p u.trail (ClaimsParked k r false) ∙ (unless_closed k r (last_unsettled p u.trail) d
-      ∙ (settled_look_waits h.0 p t u h.1 h.3 refl ∙ look_waits p k (8 + h.0) v t (λ e. omega arith) (λ e. omega arith) refl))))
+  -- the stop word
+  pub looks_at_stop : (r : ℕ) (v w : View X T) → w ≡ after_stop_look r v → Becomes v.held v.lent 0 (LooksAtStop r ∷ []) v w × (r ≡ 1 → w.saw_stop ≡ true) × SawNoneMore v w
+  looks_at_stop r v w is = (
+    at v.held v.lent 0 (LooksAtStop r ∷ []) v (after_stop_look r v) w is (stop_look_becomes v r),
+    (λ e. ap (λ x. x.saw_stop) is ∙ ap (λ b. b || v.saw_stop) (same_yes r 1 e)),
+    λ p. ap (λ x. last_unsettled p x.trail) is ∙ last_more p v.trail (LooksAtStop r),
+  )
 
 module _ {X T O : Type 0} (m : Meant T O) (k : ℕ) (v w : View X T) where
+  -- the view after a look of the claim
+  abbrev seen_at : ℕ → ℕ → View X T → View X T
+  seen_at j r u = after_look (Looks j r) j r u
+
   -- a claim that is won
-  pub claim_starts : ClaimSays m k v Start w → Becomes (fresh_hold k ∷ v.held) v.lent 0 (Looks k 0 ∷ ClaimsFresh k 0 true ∷ []) v w × IsAmong k w.begun
-  claim_starts h = (
-    record {
-      about = ap (λ x. x.about) h;
-      share = ap (λ x. x.share) h;
-      stopped = ap (λ x. x.stopped) h;
-      saw_stop = λ q. ap (λ x. x.saw_stop) h ∙ q;
-      holds = ap (λ x. x.held) h;
-      loan = ap (λ x. x.lent) h;
-      spent = (let e = ap (λ x. x.spent) h in omega arith);
-      begun = λ j s. subst (IsAmong j) (sym (ap (λ x. x.begun) h)) (inr s);
-      seen = λ j s. subst (IsAmong j) (sym (ap (λ x. x.seen) h)) (saw_before k 0 v.seen j s);
-      trail = ap (λ x. x.trail) h ∙ append_assoc v.trail (Looks k 0 ∷ []) (ClaimsFresh k 0 true ∷ []);
-    },
-    subst (IsAmong k) (sym (ap (λ x. x.begun) h)) (inl refl),
+  pub claim_starts : ClaimSays m k v Start w → Becomes (fresh_hold k ∷ v.held) v.lent 0 (Looks k 0 ∷ ClaimsFresh k 0 true ∷ []) v w × IsAmong k w.begun × (last_unsettled k w.trail ≡ None)
+  claim_starts h = let u = seen_at k 0 v in (
+    at (fresh_hold k ∷ v.held) v.lent 0 (Looks k 0 ∷ ClaimsFresh k 0 true ∷ []) v (after_start k u) w h
+        (then_more (fresh_hold k ∷ v.held) v.lent 0 (Looks k 0 ∷ []) (ClaimsFresh k 0 true ∷ []) v u (after_start k u) (look_becomes v (Looks k 0) k 0) (start_becomes u k)),
+    subst (λ (x : View X T). IsAmong k x.begun) (sym h) (inl refl),
+    ap (λ x. last_unsettled k x.trail) h ∙ (last_more k u.trail (ClaimsFresh k 0 true) ∙ ap (λ b. if b then None else last_unsettled k u.trail) (same_yes k k refl)),
   )
 
   pub claim_resumes : (t : T) (h : ClaimSays m k v (Resume t) w) → let on = next_read m k (m.taken t) in
-      Becomes (task_hold k t ∷ v.held) v.lent 0 (Looks k (8 + on) ∷ Looks on h.1 ∷ ClaimsParked k (8 + on) true ∷ []) v w × IsAmong on w.seen
-  claim_resumes t h = let on = next_read m k (m.taken t) in let e = h.3 in (
-    record {
-      about = ap (λ x. x.about) e;
-      share = ap (λ x. x.share) e;
-      stopped = ap (λ x. x.stopped) e;
-      saw_stop = λ q. ap (λ x. x.saw_stop) e ∙ q;
-      holds = ap (λ x. x.held) e;
-      loan = ap (λ x. x.lent) e;
-      spent = (let q = ap (λ x. x.spent) e in omega arith);
-      begun = λ j s. subst (IsAmong j) (sym (ap (λ x. x.begun) e)) s;
-      seen = λ j s. subst (IsAmong j) (sym (ap (λ x. x.seen) e)) (saw_before on h.1 _ j (saw_before k (8 + on) v.seen j s));
-      trail = ap (λ x. x.trail) e ∙ (append_assoc (v.trail ++ Looks k (8 + on) ∷ []) (Looks on h.1 ∷ []) (ClaimsParked k (8 + on) true ∷ []) ∙ append_assoc v.trail (Looks k (8 + on) ∷ []) (Looks on h.1 ∷ ClaimsParked k (8 + on) true ∷ []));
-    },
-    subst (IsAmong on) (sym (ap (λ x. x.seen) e)) (saw_it on h.1 _ h.2),
+      Becomes (task_hold k t ∷ v.held) v.lent 0 (Looks k (8 + on) ∷ Looks on h.1 ∷ ClaimsParked k (8 + on) true ∷ []) v w × IsAmong on w.seen × (last_unsettled k w.trail ≡ None)
+  claim_resumes t h = let on = next_read m k (m.taken t) in let e = ClaimsParked k (8 + on) true in let held = task_hold k t ∷ v.held in let a = seen_at k (8 + on) v in let b = seen_at on h.1 a in let z = after_claim e (task_hold k t) b in (
+    at held v.lent 0 (Looks k (8 + on) ∷ Looks on h.1 ∷ e ∷ []) v z w h.3
+        (then_more held v.lent 0 (Looks k (8 + on) ∷ []) (Looks on h.1 ∷ e ∷ []) v a z (look_becomes v (Looks k (8 + on)) k (8 + on))
+        (then_more held v.lent 0 (Looks on h.1 ∷ []) (e ∷ []) a b z (look_becomes a (Looks on h.1) on h.1) (claim_becomes b e (task_hold k t)))),
+    subst (λ (x : View X T). IsAmong on x.seen) (sym h.3) (saw_it on h.1 a.seen h.2),
+    ap (λ x. last_unsettled k x.trail) h.3 ∙ (last_more k b.trail e ∙ ap (λ c. if c then None else last_unsettled k b.trail) (same_yes k k refl)),
   )
 
-  -- a claim that is turned away
-  pub claim_not_now : (r : ℕ) → ClaimSays m k v (NotNow r) w → (part : List (Entry T)) × Becomes v.held v.lent 0 part v w × TurnsAway k part
-  claim_not_now r (z, inl h) = (Looks k r ∷ [], looks (Looks k r) k r v w h.0, inl (r, refl, h.1))
-  claim_not_now r (z, inr (inl h)) = let u = after_look (Looks k 0) k 0 v in (
-    Looks k 0 ∷ ClaimsFresh k r false ∷ [],
-    then v.held u.held v.lent u.lent 0 0 (Looks k 0 ∷ []) (ClaimsFresh k r false ∷ []) v u w (looks (Looks k 0) k 0 v u refl) (looks (ClaimsFresh k r false) k r u w h.0),
-    inr (inl (r, refl, h.1)),
-  )
-  claim_not_now r (z, inr (inr h)) = let on = h.0 in let found = h.1 in let t = after_look (Looks k (8 + on)) k (8 + on) v in let u = after_look (Looks on found) on found t in (
-    Looks k (8 + on) ∷ Looks on found ∷ ClaimsParked k r false ∷ [],
-    then v.held v.held v.lent v.lent 0 0 (Looks k (8 + on) ∷ []) (Looks on found ∷ ClaimsParked k r false ∷ []) v t w (looks (Looks k (8 + on)) k (8 + on) v t refl)
-        (then v.held v.held v.lent v.lent 0 0 (Looks on found ∷ []) (ClaimsParked k r false ∷ []) t u w (looks (Looks on found) on found t u refl) (looks (ClaimsParked k r false) k r u w h.2)),
-    inr (inr (inl (on, found, r, refl, h.3, h.4))),
+  -- a claim that is turned away, with the steps by which it was
+  abbrev pub Turned : Type 0
+  Turned = (part : List (Entry T)) × Becomes v.held v.lent 0 part v w × TurnsAway k part
+
+  pub claim_not_now : (r : ℕ) → ClaimSays m k v (NotNow r) w → Turned
+  claim_not_now r (z, inl h) = (Looks k r ∷ [], looks (Looks k r) k r v w h.0, ⊎_elim (λ (e : r ≡ 1). by_hold (ap (λ x. Looks k x ∷ []) e)) (λ (d : IsSettledWord r). by_outcome r d refl) h.1)
+  claim_not_now r (z, inr (inl h)) = let u = seen_at k 0 v in let e = ClaimsFresh k r false in
+      (Looks k 0 ∷ e ∷ [], then_more v.held v.lent 0 (Looks k 0 ∷ []) (e ∷ []) v u w (look_becomes v (Looks k 0) k 0) (looks e k r u w h.0), by_rival r h.1 refl)
+  claim_not_now r (z, inr (inr h)) = let on = h.0 in let found = h.1 in let e = ClaimsParked k r false in let a = seen_at k (8 + on) v in let b = seen_at on found a in (
+    Looks k (8 + on) ∷ Looks on found ∷ e ∷ [],
+    then_more v.held v.lent 0 (Looks k (8 + on) ∷ []) (Looks on found ∷ e ∷ []) v a w (look_becomes v (Looks k (8 + on)) k (8 + on))
+        (then_more v.held v.lent 0 (Looks on found ∷ []) (e ∷ []) a b w (look_becomes a (Looks on found) on found) (looks e k r b w h.2)),
+    by_rival_resume on found r h.3 h.4 refl,
   )
 
-  -- the word that stood in the way is one of a settled piece
-  pub claim_settled : (r : ℕ) → (r ≡ 3) ⊎ (r ≡ 4) → ClaimSays m k v (NotNow r) w → IsAmong k w.seen
-  claim_settled r d (z, inl h) = sees_settled (Looks k r) k r v w h.0 d
-  claim_settled r d (z, inr (inl h)) = sees_settled (ClaimsFresh k r false) k r (after_look (Looks k 0) k 0 v) w h.0 d
-  claim_settled r d (z, inr (inr h)) = sees_settled (ClaimsParked k r false) k r (after_look (Looks h.0 h.1) h.0 h.1 (after_look (Looks k (8 + h.0)) k (8 + h.0) v)) w h.2 d
-
-  pub claim_still : (on : PieceNo) (found : ℕ) → ClaimSays m k v (StillParked on found) w → (part : List (Entry T)) × Becomes v.held v.lent 0 part v w × TurnsAway k part
-  claim_still on found h = let t = after_look (Looks k (8 + on.0)) k (8 + on.0) v in (
+  pub claim_still : (on : PieceNo) (found : ℕ) → ClaimSays m k v (StillParked on found) w → Turned
+  claim_still on found h = let a = seen_at k (8 + on.0) v in (
     Looks k (8 + on.0) ∷ Looks on.0 found ∷ [],
-    then v.held v.held v.lent v.lent 0 0 (Looks k (8 + on.0) ∷ []) (Looks on.0 found ∷ []) v t w (looks (Looks k (8 + on.0)) k (8 + on.0) v t refl) (looks (Looks on.0 found) on.0 found t w h.0),
-    inr (inr (inr (on.0, found, refl, h.1, h.2, h.3))),
+    then_more v.held v.lent 0 (Looks k (8 + on.0) ∷ []) (Looks on.0 found ∷ []) v a w (look_becomes v (Looks k (8 + on.0)) k (8 + on.0)) (looks (Looks on.0 found) on.0 found a w h.0),
+    by_park on.0 found h.1 h.2 h.3 refl,
   )
 
   -- loans
-  pub lend_gets : (o : O) → LendSays m k v (Got o) w → Becomes v.held (Some k) 0 (Lends k 3 true ∷ []) v w × IsAmong k w.seen
+  pub lend_gets : (o : O) → LendSays m k v (Got o) w → Becomes v.held (Some k) 0 (Lends k 3 true ∷ []) v w × IsAmong k w.seen × SawNoneMore v w
   lend_gets o h = (
-    record {
-      about = ap (λ x. x.about) h.1;
-      share = ap (λ x. x.share) h.1;
-      stopped = ap (λ x. x.stopped) h.1;
-      saw_stop = λ q. ap (λ x. x.saw_stop) h.1 ∙ q;
-      holds = ap (λ x. x.held) h.1;
-      loan = ap (λ x. x.lent) h.1;
-      spent = (let q = ap (λ x. x.spent) h.1 in omega arith);
-      begun = λ j s. subst (IsAmong j) (sym (ap (λ x. x.begun) h.1)) s;
-      seen = λ j s. subst (IsAmong j) (sym (ap (λ x. x.seen) h.1)) (inr s);
-      trail = ap (λ x. x.trail) h.1;
-    },
-    subst (IsAmong k) (sym (ap (λ x. x.seen) h.1)) (inl refl),
+    at v.held (Some k) 0 (Lends k 3 true ∷ []) v (after_lend k v) w h.1 (lend_becomes v k),
+    subst (λ (x : View X T). IsAmong k x.seen) (sym h.1) (inl refl),
+    λ p. ap (λ x. last_unsettled p x.trail) h.1 ∙ last_more p v.trail (Lends k 3 true),
   )
 
-  pub lend_open : (r : ℕ) → LendSays m k v (NotSettled r) w → Becomes v.held v.lent 0 (Lends k r false ∷ []) v w × ((p : ℕ) → last_unsettled p w.trail ≡ Some k)
-  lend_open r h = let open_word = h.1 in (
-    looks (Lends k r false) k r v w h.0,
-    λ p. lend_waits p k r v w (λ e. ⊎_elim (λ (a : r < 3). omega arith) (λ (a : 8 ≤ r). omega arith) open_word) (λ e. ⊎_elim (λ (a : r < 3). omega arith) (λ (a : 8 ≤ r). omega arith) open_word) h.0,
+  pub lend_open : (r : ℕ) → LendSays m k v (NotSettled r) w → Becomes v.held v.lent 0 (Lends k r false ∷ []) v w × SawUnsettled k w × ¬ Knows m k v
+  lend_open r h = let e = Lends k r false in (
+    looks e k r v w h.0,
+    (λ p. ap (λ x. last_unsettled p x.trail) h.0 ∙ (last_more p v.trail e ∙ unless_open k r (last_unsettled p v.trail) (not_settled 3 (omega arith) (omega arith)) (not_settled 4 (omega arith) (omega arith)))),
+    h.3,
   )
+    where
+      not_settled : (n : ℕ) → 3 ≤ n → n < 8 → r ≢ n
+      not_settled n a b e = ⊎_elim (λ (l : r < 3). omega arith) (λ (l : 8 ≤ r). omega arith) h.1
 
   pub lend_busy : (r : ℕ) → LendSays m k v (Busy r) w → Becomes v.held v.lent 0 (Lends k 4 false ∷ []) v w × IsAmong k w.seen
   lend_busy r h = (looks (Lends k 4 false) k 4 v w h.1, sees_settled (Lends k 4 false) k 4 v w h.1 (inr refl))
 
 module _ {X T : Type 0} (k : ℕ) (v w : View X T) where
-  pub gives : w ≡ after_give_back k v → Becomes v.held None 0 (GivesBack k ∷ []) v w
-  gives h = record {
-    about = ap (λ x. x.about) h;
-    share = ap (λ x. x.share) h;
-    stopped = ap (λ x. x.stopped) h;
-    saw_stop = λ q. ap (λ x. x.saw_stop) h ∙ q;
-    holds = ap (λ x. x.held) h;
-    loan = ap (λ x. x.lent) h;
-    spent = (let q = ap (λ x. x.spent) h in omega arith);
-    begun = λ j s. subst (IsAmong j) (sym (ap (λ x. x.begun) h)) s;
-    seen = λ j s. subst (IsAmong j) (sym (ap (λ x. x.seen) h)) s;
-    trail = ap (λ x. x.trail) h;
-  }
+  pub gives : w ≡ after_give_back k v → Becomes v.held None 0 (GivesBack k ∷ []) v w × SawNoneMore v w
+  gives is = (at v.held None 0 (GivesBack k ∷ []) v (after_give_back k v) w is (give_becomes v k), λ p. ap (λ x. last_unsettled p x.trail) is ∙ last_more p v.trail (GivesBack k))
 
   -- the ends of a hold
-  pub settles : (steps : ℕ) → w ≡ after_settle k steps v → Becomes (without k v.held) v.lent steps (Settles k ∷ []) v w × IsAmong k w.seen
-  settles steps h = (
-    record {
-      about = ap (λ x. x.about) h;
-      share = ap (λ x. x.share) h;
-      stopped = ap (λ x. x.stopped) h;
-      saw_stop = λ q. ap (λ x. x.saw_stop) h ∙ q;
-      holds = ap (λ x. x.held) h;
-      loan = ap (λ x. x.lent) h;
-      spent = ap (λ x. x.spent) h;
-      begun = λ j s. subst (IsAmong j) (sym (ap (λ x. x.begun) h)) s;
-      seen = λ j s. subst (IsAmong j) (sym (ap (λ x. x.seen) h)) (inr s);
-      trail = ap (λ x. x.trail) h;
-    },
-    subst (IsAmong k) (sym (ap (λ x. x.seen) h)) (inl refl),
+  pub settles : (steps : ℕ) → w ≡ after_settle k steps v → Becomes (without k v.held) v.lent steps (Settles k ∷ []) v w × IsAmong k w.seen × SawNoneMore v w
+  settles steps is = (
+    at (without k v.held) v.lent steps (Settles k ∷ []) v (after_settle k steps v) w is (settle_becomes v k steps),
+    subst (λ (x : View X T). IsAmong k x.seen) (sym is) (inl refl),
+    λ p. ap (λ x. last_unsettled p x.trail) is ∙ last_more p v.trail (Settles k),
   )
 
-  pub parks : (word : ℕ) (t : T) (steps : ℕ) → w ≡ after_park k word t steps v → Becomes (without k v.held) v.lent steps (Parks k word t ∷ []) v w
-  parks word t steps h = record {
-    about = ap (λ x. x.about) h;
-    share = ap (λ x. x.share) h;
-    stopped = ap (λ x. x.stopped) h;
-    saw_stop = λ q. ap (λ x. x.saw_stop) h ∙ q;
-    holds = ap (λ x. x.held) h;
-    loan = ap (λ x. x.lent) h;
-    spent = ap (λ x. x.spent) h;
-    begun = λ j s. subst (IsAmong j) (sym (ap (λ x. x.begun) h)) s;
-    seen = λ j s. subst (IsAmong j) (sym (ap (λ x. x.seen) h)) s;
-    trail = ap (λ x. x.trail) h;
-  }
+  pub parks : (word : ℕ) (t : T) (steps : ℕ) → w ≡ after_park k word t steps v → Becomes (without k v.held) v.lent steps (Parks k word t ∷ []) v w × SawNoneMore v w
+  parks word t steps is = (
+    at (without k v.held) v.lent steps (Parks k word t ∷ []) v (after_park k word t steps v) w is (park_becomes v k word t steps),
+    λ p. ap (λ x. last_unsettled p x.trail) is ∙ last_more p v.trail (Parks k word t),
+  )
 
 -- the holds of a view
 pub held_first : {T : Type 0} (h : Hold T) (hs held : List (Hold T)) (k : ℕ) → held ≡ h ∷ hs → h.piece ≡ k → hold_on k held ≡ Some h
@@ -327,7 +195,7 @@ pub one_hold : {T : Type 0} (h g : Hold T) (k : ℕ) (held : List (Hold T)) → 
 one_hold h g k held a b = let e : Some h ≡ Some g = sym a ∙ b in cc
 
 pub none_left : {T : Type 0} (h : Hold T) (k : ℕ) → h.piece ≡ k → without k (h ∷ []) ≡ []
-none_left h k e = ap (λ b. cond b [] (h ∷ [])) (same_yes h.piece k e)
+none_left h k e = ap (λ b. if b then [] else h ∷ []) (same_yes h.piece k e)
 
 -- what a view knows to be settled it still knows where it sees no less and keeps its holds
 pub knows_stays : {X T O : Type 0} (m : Meant T O) (v w : View X T) → ((j : ℕ) → IsAmong j v.seen → IsAmong j w.seen)
@@ -335,44 +203,12 @@ pub knows_stays : {X T O : Type 0} (m : Meant T O) (v w : View X T) → ((j : �
 knows_stays m v w grows keeps j (inl h) = inl (grows j h)
 knows_stays m v w grows keeps j (inr t) = inr (t.0, t.1, t.2, keeps t.0 t.2 t.3, t.4, t.5)
 
--- a task that has seen its first n reads
-module _ {X T O : Type 0} (m : Meant T O) (k : ℕ) where
-  pub seen_none_yet : (v : View X T) → HasSeen m k 0 v
-  seen_none_yet v h e i l = absurd (omega arith)
+-- The reads of a task
+module _ {X T O : Type 0} (m : Meant T O) (k n : ℕ) (v : View X T) where
+  -- a hold knows that the reads are settled which its task had taken
+  pub knows_taken : (h : Hold T) → hold_on k v.held ≡ Some h → n < taken_at m h.claimed → Knows m (next_read m k n) v
+  knows_taken h has l = inr (k, n, h, has, l, refl)
 
-  pub seen_claimed : (v : View X T) (t : T) → hold_on k v.held ≡ Some (task_hold k t) → HasSeen m k (m.taken t) v
-  seen_claimed v t has h e i l = inl (subst (λ (x : Hold T). i < taken_at m x.claimed) (one_hold (task_hold k t) h k v.held has e) l)
-
-  pub seen_one_more : (n : ℕ) (v : View X T) → HasSeen m k n v → IsAmong (next_read m k n) v.seen → HasSeen m k (n + 1) v
-  seen_one_more n v all has h e i l = by_same i n (λ (q : i ≡ n). inr (subst (λ (z : ℕ). IsAmong (next_read m k z) v.seen) (sym q) has)) (λ (d : i ≢ n). all h e i (omega arith))
-
-  pub seen_stays : (n : ℕ) (v w : View X T) → hold_on k w.held ≡ hold_on k v.held → ((j : ℕ) → IsAmong j v.seen → IsAmong j w.seen) → HasSeen m k n v → HasSeen m k n w
-  seen_stays n v w same grows all h e i l = ⊎_elim (λ (a : i < taken_at m h.claimed). inl a) (λ (a : IsAmong (next_read m k i) v.seen). inr (grows (next_read m k i) a)) (all h (sym same ∙ e) i l)
-
--- parts of trails
-module _ {T : Type 0} (part : List (Entry T)) where
-  pub within_itself : IsWithin part part
-  within_itself = ([], [], sym (append-nil part))
-
-  pub within_left : (p q : List (Entry T)) → IsWithin part p → IsWithin part (p ++ q)
-  within_left p q h = (h.0, h.1 ++ q, ap (λ x. x ++ q) h.2 ∙ (append_assoc h.0 (part ++ h.1) q ∙ ap (λ x. h.0 ++ x) (append_assoc part h.1 q)))
-
-  pub within_right : (p q : List (Entry T)) → IsWithin part q → IsWithin part (p ++ q)
-  within_right p q h = (p ++ h.0, h.1, ap (λ x. p ++ x) h.2 ∙ sym (append_assoc p h.0 (part ++ h.1)))
-
--- a piece that was tried
-module _ {T : Type 0} (k : ℕ) (p q : List (Entry T)) where
-  pub turned_left : IsTurnedAway k p → IsTurnedAway k (p ++ q)
-  turned_left h = (h.0, h.1, within_left h.0 p q h.2)
-
-  pub turned_right : IsTurnedAway k q → IsTurnedAway k (p ++ q)
-  turned_right h = (h.0, h.1, within_right h.0 p q h.2)
-
-pub turned_here : {T : Type 0} (k : ℕ) (part : List (Entry T)) → TurnsAway k part → IsTurnedAway k part
-turned_here k part h = (part, h, within_itself part)
-
--- one piece more was tried
-pub turn_away_more : {T : Type 0} (n : ℕ) (p part : List (Entry T)) → AllTurnAway n p → TurnsAway n part → AllTurnAway (n + 1) (p ++ part)
-turn_away_more n p part all one k l = by_same k n
-    (λ (e : k ≡ n). subst (λ (z : ℕ). IsTurnedAway z (p ++ part)) (sym e) (turned_right n p part (turned_here n part one)))
-    (λ (d : k ≢ n). turned_left k p part (all k (omega arith)))
+  -- all that a task took are among the pieces that the seat saw settled
+  pub seen_all : ((i : ℕ) → i < n → IsAmong (next_read m k i) v.seen) → HasSeen m k n v
+  seen_all all h has i l = inr (all i l)

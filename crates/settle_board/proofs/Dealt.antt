@@ -11,7 +11,7 @@ use Rattle.board_rule.specs.declared.home.Home.{Home}
 use Rattle.board_rule.specs.declared.view.Key.{Key}
 use Rattle.board_rule.specs.declared.view.View.{View}
 use Rattle.board_rule.proofs.Seats.{cuts}
-use Rattle.settle_board.specs.Boards.{IsOf, view_of}
+use Rattle.settle_board.specs.Boards.{view_of, IsOfBy}
 use Rattle.settle_board.specs.Seating.{blank, AreNew, Dealing}
 use Rattle.settle_board.specs.declared.board.Board.{Board}
 use Rattle.settle_board.specs.declared.board.BoardSeat.{BoardSeat}
@@ -24,7 +24,7 @@ module _ {T O X : Type 0} (meant : X → Meant T O) (b : Board X T O) where
   Deals n s = Dealing m b.table.shared.table_id b.key n s
 
   abbrev IsBlank : BoardSeat X T O → Type 0
-  IsBlank s = IsOf meant b s × (view_of s ≡ blank b.key 1)
+  IsBlank s = IsOfBy meant b s × (view_of s ≡ blank b.key 1)
 
   pub new_more : (seats seats' : List (BoardSeat X T O)) (s : Seat (Home T O) (View X T)) → seats' ≡ seats ++ record { seat = s } ∷ [] → AreNew meant b seats → IsBlank record { seat = s } → AreNew meant b seats'
   new_more seats seats' s e all here i t g = ⊎_elim (all i t) (λ (q : record { seat = s } ≡ t). subst IsBlank q here) (at_snoc seats (record { seat = s }) t i (ap (λ l. get_elem? l i) (sym e) ∙ g))

@@ -6,7 +6,7 @@ use Rattle.settle_core.specs.Meant.{Meant, outcome}
 use Rattle.board_rule.specs.Standing.{steps_at}
 use Rattle.board_rule.specs.Views.{hold_on, with_hand, after_settle, after_park, after_lend}
 use Rattle.board_rule.specs.Rule.{work}
-use Rattle.board_rule.specs.Plays.{settled, parked, claimed_parked, resumed, lent}
+use Rattle.board_rule.specs.Plays.{settle_tells, park_tells, resume_tells, gets_task, lend_tells}
 use Rattle.board_rule.specs.declared.home.Home.{Home}
 use Rattle.board_rule.specs.declared.home.Home.TheVariants.{Empty, Task, Outcome}
 use Rattle.board_rule.specs.declared.view.Hold.{Hold}
@@ -48,17 +48,17 @@ module _ {X T O : Type 0} (meant : X → Meant T O) (key : Key X) (k slots : ℕ
 
   -- the last store of a call that settles or parks
   module _ (t u : Me (Home T O) (View X T)) (v : View X T) (y : Home T O) (c : List (ℕ × Home T O)) (e : t ≡ (with_hand (Some k) v, (k, y) ∷ c)) (h : Hold T) (about : v.about ≡ Some key) (has : hold_on k v.held ≡ Some h) where
-    pub settled_to : settled meant (step slots k 3 0 none) t 3 u → (u ≡ (with_hand None (after_settle k (m.outcome_steps (outcome m k) - steps_at m h.claimed) v), c)) × (u.0.spent ≤ work m)
+    pub settled_to : settle_tells meant (step slots k 3 0 none) t 3 u → (u ≡ (with_hand None (after_settle k (m.outcome_steps (outcome m k) - steps_at m h.claimed) v), c)) × (u.0.spent ≤ work m)
     settled_to q = let a = q key h (ap (λ x. x.0.about) e ∙ about) (ap (λ x. hold_on k x.0.held) e ∙ has) in
         (a.0 ∙ ap (λ (x : Me (Home T O) (View X T)). (with_hand None (after_settle k (m.outcome_steps (outcome m k) - steps_at m h.claimed) x.0), rest x.1)) e, a.1)
 
-    pub parked_to : (a : T) (on : ℕ) → y ≡ Task a → parked meant (step slots k (8 + on) 0 none) t (8 + on) u → (u ≡ (with_hand None (after_park k (8 + on) a (m.task_steps a - steps_at m h.claimed) v), c)) × (u.0.spent ≤ work m)
+    pub parked_to : (a : T) (on : ℕ) → y ≡ Task a → park_tells meant (step slots k (8 + on) 0 none) t (8 + on) u → (u ≡ (with_hand None (after_park k (8 + on) a (m.task_steps a - steps_at m h.claimed) v), c)) × (u.0.spent ≤ work m)
     parked_to a on is q = let b = q key h a (ap (λ x. x.0.about) e ∙ about) (ap (λ x. hold_on k x.0.held) e ∙ has) (ap (λ x. x.1) e ∙ (λ i. (k, is i) ∷ rest (sym e i).1)) in
         (b.0 ∙ ap (λ (x : Me (Home T O) (View X T)). (with_hand None (after_park k (8 + on) a (m.task_steps a - steps_at m h.claimed) x.0), rest x.1)) e, b.1)
 
   -- the exchange that brings a task or an outcome to hand
-  pub resumed_at : (word r : ℕ) (t u : Me (Home T O) (View X T)) → t.0.about ≡ Some key → r ≡ word → claimed_parked meant (step slots k word 1 none) t r u → resumed meant key k r t u
+  pub resumed_at : (word r : ℕ) (t u : Me (Home T O) (View X T)) → t.0.about ≡ Some key → r ≡ word → resume_tells meant (step slots k word 1 none) t r u → gets_task meant key k r t u
   resumed_at word r t u about e q = q.0 e key about
 
-  pub lent_at : (r : ℕ) (t u : Me (Home T O) (View X T)) → t.0.about ≡ Some key → r ≡ 3 → lent meant (step slots k 3 4 none) t r u → u ≡ (with_hand (Some k) (after_lend k t.0), (k, Outcome (outcome m k)) ∷ t.1)
+  pub lent_at : (r : ℕ) (t u : Me (Home T O) (View X T)) → t.0.about ≡ Some key → r ≡ 3 → lend_tells meant (step slots k 3 4 none) t r u → u ≡ (with_hand (Some k) (after_lend k t.0), (k, Outcome (outcome m k)) ∷ t.1)
   lent_at r t u about e q = q.0 e key about

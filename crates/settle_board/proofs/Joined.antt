@@ -1,11 +1,11 @@
 -- How `close` gets from its list of seats to one seat, and what that seat tells of the words and slots.
-use Rattle.std.proofs.Common.{None, ◌≡◌, ◌≢◌, ◌⊎◌, ◌↔◌, ℕ, zero, suc, ◌+◌, ◌<◌, ◌≤◌, List, [], ◌∷◌, ◌++◌, length, get_or, sym, refl, ap, ◌∙◌, subst, arith, inl, inr, ⊎_elim, length-append}
+use Rattle.std.proofs.Common.{None, true, ◌≡◌, ◌≢◌, ◌⊎◌, ◌↔◌, ℕ, zero, suc, ◌+◌, ◌<◌, ◌≤◌, List, [], ◌∷◌, ◌++◌, length, get_or, sym, refl, ap, ◌∙◌, subst, arith, inl, inr, ⊎_elim, length-append}
 use mathlib.Core.Option.{some, some-ne-none, some-injective}
 use lib.ListN.{get_elem?}
 use Rattle.atomic_table.specs.declared.shared.Seat.{Seat}
 use Rattle.atomic_table.specs.Table.{Joins, Final, Seen}
 use Rattle.atomic_table.proofs.Lists.{at_longer, at_last, at_snoc}
-use Rattle.settle_core.specs.Meant.{Meant, Lawful, fold, outcome}
+use Rattle.settle_core.specs.Meant.{Meant, Lawful, outcomes_below, outcome}
 use Rattle.settle_core.proofs.Folds.{fold_length, fold_at}
 use Rattle.board_rule.specs.Maps.{IsAmong, HasSome}
 use Rattle.board_rule.specs.Standing.{IsSettled, word_of}
@@ -18,12 +18,13 @@ use Rattle.board_rule.specs.declared.view.View.{View}
 use Rattle.board_rule.proofs.Maps.{among_either, among_left, among_right, some_longer, total_push}
 use Rattle.board_rule.proofs.Seats.{joins}
 use Rattle.board_rule.proofs.Closing.{seen_home, seen_here, settled_home, open_word, all_spent}
-use Rattle.settle_board.specs.Boards.{IsOf, view_of}
-use Rattle.settle_board.specs.Seating.{AreBack, Gathered, SeenBy, BegunBy, StandsWith, spent_by}
+use Rattle.settle_board.specs.Boards.{IsIdle, are_idle, view_of, IsOfBy}
+use Rattle.settle_board.specs.Seating.{AreOf, AreBack, Gathered, SeenBy, BegunBy, StandsWith, spent_by}
 use Rattle.settle_board.specs.Homes.{IsHome}
 use Rattle.settle_board.specs.declared.board.Board.{Board}
 use Rattle.settle_board.specs.declared.board.BoardSeat.{BoardSeat}
 use Rattle.settle_board.proofs.Taking.{IsOut}
+use Rattle.settle_board.proofs.SeatLists.{each_idle}
 
 module _ {A : Type 0} where
   pub elem_or : (l : List A) (k : ℕ) (x d : A) → get_elem? l k ≡ some x → get_or l k d ≡ x
@@ -37,6 +38,10 @@ module _ {A : Type 0} where
   lists_same [] (y ∷ ys) e h = absurd (omega arith)
   lists_same (x ∷ xs) [] e h = absurd (omega arith)
   lists_same (x ∷ xs) (y ∷ ys) e h = λ i. h 0 x (omega arith) i ∷ lists_same xs ys (omega arith) (λ k d l. h (suc k) d (omega arith)) i
+
+-- seats of the board that are idle
+pub all_back : {X T O : Type 0} (meant : X → Meant T O) (b : Board X T O) (seats : List (BoardSeat X T O)) → AreOf meant b seats → are_idle seats ≡ true → AreBack meant b seats
+all_back meant b seats of idle i s e = (of i s e, each_idle seats idle i s e)
 
 pub both : {A B C : Type 0} → A ↔ B → B ↔ C → A ↔ C
 both f g = ((λ a. g.0 (f.0 a)), (λ c. f.1 (g.1 c)))
@@ -87,7 +92,7 @@ module _ {X T O : Type 0} where
         (λ q. h.1 (⊎_elim (λ (x : By seats'). inr x) (λ (x : IsAmong k (f (view_of s))). inl x) (by_last.0 q))),
       )
 
-    pub last_back : (meant : X → Meant T O) (b : Board X T O) → AreBack meant b seats → IsOf meant b s × ((view_of s).held ≡ []) × ((view_of s).lent ≡ None)
+    pub last_back : (meant : X → Meant T O) (b : Board X T O) → AreBack meant b seats → IsOfBy meant b s × IsIdle (view_of s)
     last_back meant b all = all (length seats') s (ap (λ l. get_elem? l (length seats')) e ∙ at_last seats' s (length seats') refl)
 
     pub rest_back : (meant : X → Meant T O) (b : Board X T O) → AreBack meant b seats → AreBack meant b seats'
@@ -101,10 +106,10 @@ module _ {X T O : Type 0} (meant : X → Meant T O) (b : Board X T O) where
   Gathers n s = Gathered m b.table.shared.table_id b.key n s
 
   abbrev pub IsBack : BoardSeat X T O → Type 0
-  IsBack s = IsOf meant b s × ((view_of s).held ≡ []) × ((view_of s).lent ≡ None)
+  IsBack s = IsOfBy meant b s × IsIdle (view_of s)
 
   pub gathered_one : (s : BoardSeat X T O) → IsBack s → Gathers 1 s.seat
-  gathered_one s h = record { words = h.0.words; slots = h.0.slots; at = h.0.at; share = h.0.share; some_share = omega arith; held = h.1; lent = h.2; hand = h.0.hand; bare = h.0.bare }
+  gathered_one s h = record { words = h.0.words; slots = h.0.slots; at = h.0.at; share = h.0.share; some_share = omega arith; held = h.1.0; lent = h.1.1; hand = h.0.hand; bare = h.0.bare }
 
   module _ (n : ℕ) (s : Seat (Home T O) (View X T)) (g : Gathers n s) (o : BoardSeat X T O) (h : IsBack o) where
     pub gathered_more : (t : Seat (Home T O) (View X T)) → t.table_id ≡ s.table_id → t.me ≡ (joined s.me.0 (view_of o), s.me.1) → Gathers t.me.0.share t
@@ -128,7 +133,7 @@ module _ {X T O : Type 0} (meant : X → Meant T O) (b : Board X T O) where
       h.0.bare,
       (let w = g.words in omega arith),
       subst (λ (x : Key X). Joins (OneState meant x) s.id s.me.0 o.seat.id (view_of o) (joined s.me.0 (view_of o)) gone) (sym b.keyed)
-          (joins meant b.key s.id o.seat.id s.me.0 (view_of o) (let a = g.share in let q = g.some_share in omega arith) (let a = h.0.share in omega arith) h.1 h.2 h.0.hand),
+          (joins meant b.key s.id o.seat.id s.me.0 (view_of o) (let a = g.share in let q = g.some_share in omega arith) (let a = h.0.share in omega arith) h.1.0 h.1.1 h.0.hand),
     )
 
   -- a closed table, by the view of the seat that took in all others
@@ -153,9 +158,9 @@ module _ {X T O : Type 0} (meant : X → Meant T O) (b : Board X T O) where
       seen_settled k l e = (seen k).0 (seen_here meant b.key f.0 rule id v f.1.1 share held lent k
           (subst IsSettled (sym (settled_home meant b.key f.0 rule id v f.1.1 share held lent k (let q = count in omega arith) (word k 3 e)).0) tt))
 
-      pub all_out : (outcomes : List O) → length outcomes ≡ n → ((k : ℕ) → k < n → IsOut words slots outcomes k) → (outcomes ≡ fold m m.pieces) × (spent_by seats ≡ work m) × ((k : ℕ) → k < m.pieces → SeenBy k seats)
+      pub all_out : (outcomes : List O) → length outcomes ≡ n → ((k : ℕ) → k < n → IsOut words slots outcomes k) → (outcomes ≡ outcomes_below m m.pieces) × (spent_by seats ≡ work m) × ((k : ℕ) → k < m.pieces → SeenBy k seats)
       all_out outcomes e h = (
-        lists_same outcomes (fold m m.pieces) (e ∙ (count ∙ sym (fold_length m m.pieces)))
+        lists_same outcomes (outcomes_below m m.pieces) (e ∙ (count ∙ sym (fold_length m m.pieces)))
             (λ k d l. (let inside : k < m.pieces = subst (λ (z : ℕ). k < z) (fold_length m m.pieces) l in let q = h k (omega arith) in
             elem_or outcomes k q.1.0 d q.1.1 ∙ (one_home k q.1.0 (outcome m k) q.1.2 (closed_home k inside q.0) ∙ sym (fold_at m m.pieces k d inside)))),
         sym spent ∙ all_spent meant b.key f.0 rule id v f.1.1 share held lent (λ k l. word k 3 (h k (omega arith)).0),

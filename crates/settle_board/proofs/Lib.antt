@@ -1,5 +1,6 @@
 pub mod Allowed
 pub mod Hands
+pub mod Stores
 pub mod Dealt
 pub mod Taking
 pub mod Joined

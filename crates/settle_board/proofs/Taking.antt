@@ -1,4 +1,4 @@
--- The loop of `finish`, one turn further.
+-- The loop of `take_outcomes`, one turn further.
 use Rattle.std.proofs.Common.{Bool, false, get_or, set, get_or-set_other, ◌≡◌, ◌≢◌, ℕ, zero, suc, ◌+◌, ◌<◌, List, [], ◌∷◌, ◌++◌, length, sym, refl, ap, ◌∙◌, subst, arith}
 use mathlib.Core.Option.{some}
 use lib.ListN.{get_elem?}

@@ -13,10 +13,10 @@ use Rattle.board_rule.specs.Views.{first_view}
 use Rattle.board_rule.specs.declared.home.Home.{Home}
 use Rattle.board_rule.specs.declared.view.Key.{Key}
 use Rattle.board_rule.specs.declared.view.View.{View}
-use Rattle.settle_board.specs.Boards.{IsOf, view_of}
+use Rattle.settle_board.specs.Boards.{IsIdle, view_of, IsOfBy}
 use Rattle.settle_board.specs.declared.board.Board.{Board}
 use Rattle.settle_board.specs.declared.board.BoardSeat.{BoardSeat}
-use Rattle.settle_board.specs.declared.board.Seats.{Seats}
+use Rattle.settle_board.specs.declared.seat_list.Seats.{Seats}
 
 -- a view with a share of n seats, and nothing else in it
 abbrev pub blank : {X T : Type 0} → Key X → ℕ → View X T
@@ -36,11 +36,15 @@ module _ {X T O : Type 0} where
 
   -- each is a seat of the board, and nothing was done with it yet
   abbrev pub AreNew : (X → Meant T O) → Board X T O → List (BoardSeat X T O) → Type 0
-  AreNew meant b seats = (i : ℕ) (s : BoardSeat X T O) → get_elem? seats i ≡ some s → IsOf meant b s × (view_of s ≡ blank b.key 1)
+  AreNew meant b seats = (i : ℕ) (s : BoardSeat X T O) → get_elem? seats i ≡ some s → IsOfBy meant b s × (view_of s ≡ blank b.key 1)
 
-  -- each is a seat of the board, which holds no piece and has no outcome lent
+  -- each is a seat of the board
+  abbrev pub AreOf : (X → Meant T O) → Board X T O → List (BoardSeat X T O) → Type 0
+  AreOf meant b seats = (i : ℕ) (s : BoardSeat X T O) → get_elem? seats i ≡ some s → IsOfBy meant b s
+
+  -- and idle
   abbrev pub AreBack : (X → Meant T O) → Board X T O → List (BoardSeat X T O) → Type 0
-  AreBack meant b seats = (i : ℕ) (s : BoardSeat X T O) → get_elem? seats i ≡ some s → IsOf meant b s × ((view_of s).held ≡ []) × ((view_of s).lent ≡ None)
+  AreBack meant b seats = (i : ℕ) (s : BoardSeat X T O) → get_elem? seats i ≡ some s → IsOfBy meant b s × IsIdle (view_of s)
 
   -- One of the seats settled the piece k, or saw it settled; one of them found it fresh and claimed it
   abbrev pub SeenBy : ℕ → List (BoardSeat X T O) → Type 0

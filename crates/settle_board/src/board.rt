@@ -9,6 +9,8 @@ use std::alloc::Global;
 
 /// For each piece a word and a slot, and one stop word. A word is 0 fresh, 1 held, 3 settled, 4 settled with its outcome lent,
 /// 8 + j parked on the piece j.
+///
+/// A slot has its task or outcome inline, so a meaning whose tasks or outcomes are large boxes them.
 #[derive(Drop)]
 pub struct Board<M: Meaning> {
     pub(crate) key: Key<M>,
@@ -24,13 +26,4 @@ pub struct Board<M: Meaning> {
 #[derive(Drop)]
 pub struct BoardSeat<M: Meaning> {
     pub(crate) seat: Seat<Home<M::Task, M::Outcome>, View<M, M::Task>>,
-}
-
-/// The seats of a board that no worker has.
-#[derive(Drop)]
-pub struct Seats<M: Meaning> {
-    pub(crate) list: Vec<BoardSeat<M>>,
-    // How many the board has.
-    pub(crate) count: u32,
-    ghost roomy: { count ≤ vec_capacity list },
 }

@@ -6,7 +6,7 @@ ghost use Rattle.board_rule.specs.Standing.{next_read};
 ghost use Rattle.board_rule.specs.Views.{task_hold, after_look, after_start, after_claim, Knows};
 ghost use Rattle.board_rule.specs.Plays.{IsWordOf, CanPark};
 ghost use Rattle.board_rule.specs.declared.view.Entry.TheVariants.{Looks, ClaimsFresh, ClaimsParked};
-ghost use Rattle.settle_board.specs.Boards.{IsOf, meaning_of, view_of};
+ghost use Rattle.settle_board.specs.Boards.{IsOf, means, view_of};
 ghost use Rattle.settle_board.specs.Answers.{ClaimSays};
 
 use crate::answers::Claim;
@@ -18,22 +18,25 @@ use settle_core::Meaning;
 impl<M: Meaning> Board<M> {
     /// The word of a piece. One that the seat knows to be settled has 3 or 4.
     pub fn look(&self, seat: &mut BoardSeat<M>, k: PieceNo) -> u64
-        requires of { IsOf (λ x. M.meant x) self.now seat.old }
-        requires piece { k.0 < (M.meant (meaning_of self.now)).pieces }
-        ensures of { IsOf (λ x. M.meant x) self.now seat.new }
-        ensures view { view_of seat.new ≡ after_look (Looks k.0 result) k.0 result (view_of seat.old) }
+        requires of { IsOf M.Meaning self.now seat.old }
+        requires piece { k.0 < (means M.Meaning self.now).pieces }
+        ensures of { IsOf M.Meaning self.now seat.new }
+        ensures view { view_of seat.new
+            ≡ after_look (Looks k.0 result) k.0 result (view_of seat.old) }
         ensures word { IsWordOf k.0 result }
-        ensures known { Knows (M.meant (meaning_of self.now)) k.0 (view_of seat.old) → (result ≡ 3) ⊎ (result ≡ 4) }
+        ensures known { Knows (means M.Meaning self.now) k.0 (view_of seat.old) →
+            (result ≡ 3) ⊎ (result ≡ 4) }
     {
         self.table.shared.load::<Look>(&mut seat.seat, k.0 as usize)
     }
 
     /// Takes a piece that is fresh, or that is parked on a settled one. The answer has its cause, and tells the view.
     pub fn claim(&self, seat: &mut BoardSeat<M>, k: PieceNo) -> Claim<M>
-        requires of { IsOf (λ x. M.meant x) self.now seat.old }
-        requires piece { k.0 < (M.meant (meaning_of self.now)).pieces }
-        ensures of { IsOf (λ x. M.meant x) self.now seat.new }
-        ensures answer { ClaimSays (M.meant (meaning_of self.now)) k.0 (view_of seat.old) result (view_of seat.new) }
+        requires of { IsOf M.Meaning self.now seat.old }
+        requires piece { k.0 < (means M.Meaning self.now).pieces }
+        ensures of { IsOf M.Meaning self.now seat.new }
+        ensures answer { ClaimSays (means M.Meaning self.now) k.0 (view_of seat.old) result
+            (view_of seat.new) }
     {
         let word = self.look(seat, k);
         if word == 0 {
@@ -59,12 +62,14 @@ impl<M: Meaning> Board<M> {
     }
 
     fn claim_fresh(&self, seat: &mut BoardSeat<M>, k: PieceNo) -> u64
-        requires of { IsOf (λ x. M.meant x) self.now seat.old }
-        requires piece { k.0 < (M.meant (meaning_of self.now)).pieces }
-        ensures of { IsOf (λ x. M.meant x) self.now seat.new }
+        requires of { IsOf M.Meaning self.now seat.old }
+        requires piece { k.0 < (means M.Meaning self.now).pieces }
+        ensures of { IsOf M.Meaning self.now seat.new }
         ensures won { result ≡ 0 → view_of seat.new ≡ after_start k.0 (view_of seat.old) }
         ensures word { IsWordOf k.0 result }
-        ensures lost { result ≢ 0 → view_of seat.new ≡ after_look (ClaimsFresh k.0 result false) k.0 result (view_of seat.old) }
+        ensures lost { result ≢ 0 →
+            view_of seat.new ≡ after_look (ClaimsFresh k.0 result false) k.0 result
+            (view_of seat.old) }
     {
         self.table
             .shared
@@ -73,16 +78,19 @@ impl<M: Meaning> Board<M> {
 
     // Takes a piece that had the word `word`, whose task waits for a piece that was seen settled. Else the word that it has.
     fn resume(&self, seat: &mut BoardSeat<M>, k: PieceNo, word: u64) -> Result<M::Task, u64>
-        requires of { IsOf (λ x. M.meant x) self.now seat.old }
-        requires piece { k.0 < (M.meant (meaning_of self.now)).pieces }
+        requires of { IsOf M.Meaning self.now seat.old }
+        requires piece { k.0 < (means M.Meaning self.now).pieces }
         requires parked { 8 ≤ word }
         requires seen { IsAmong (word - 8) (view_of seat.old).seen }
-        ensures of { IsOf (λ x. M.meant x) self.now seat.new }
+        ensures of { IsOf M.Meaning self.now seat.new }
         ensures answer { MatchResult result
-            (λ t. CanPark (M.meant (meaning_of self.now)) k.0 t
-            × (word ≡ 8 + next_read (M.meant (meaning_of self.now)) k.0 ((M.meant (meaning_of self.now)).taken t))
-            × (view_of seat.new ≡ after_claim (ClaimsParked k.0 word true) (task_hold k.0 t) (view_of seat.old)))
-            (λ w. (w ≢ word) × IsWordOf k.0 w × (view_of seat.new ≡ after_look (ClaimsParked k.0 w false) k.0 w (view_of seat.old))) }
+            (λ t. CanPark (means M.Meaning self.now) k.0 t
+            × (word ≡ 8 + next_read (means M.Meaning self.now) k.0
+            ((means M.Meaning self.now).taken t))
+            × (view_of seat.new ≡ after_claim (ClaimsParked k.0 word true) (task_hold k.0 t)
+            (view_of seat.old)))
+            (λ w. (w ≢ word) × IsWordOf k.0 w
+            × (view_of seat.new ≡ after_look (ClaimsParked k.0 w false) k.0 w (view_of seat.old))) }
     {
         let shared = &self.table.shared;
         let found = shared.compare_exchange::<ClaimParked>(&mut seat.seat, k.0 as usize, word, 1);

@@ -3,7 +3,7 @@
 ghost use Rattle.std.specs.Prelude.{◌≡◌, ◌<◌, Some, None};
 ghost use Rattle.settle_core.specs.Meant.{outcome as outcome_in_order};
 ghost use Rattle.board_rule.specs.Views.{after_give_back};
-ghost use Rattle.settle_board.specs.Boards.{IsOf, meaning_of, view_of};
+ghost use Rattle.settle_board.specs.Boards.{IsOf, means, view_of};
 ghost use Rattle.settle_board.specs.Answers.{LendSays};
 
 use crate::answers::Lend;
@@ -16,11 +16,12 @@ impl<M: Meaning> Board<M> {
     /// Borrows the outcome of a piece that is settled, where no seat has it. A seat borrows one at a time. The answer has its
     /// cause, and tells the view.
     pub fn lend(&self, seat: &mut BoardSeat<M>, j: PieceNo) -> Lend<M>
-        requires of { IsOf (λ x. M.meant x) self.now seat.old }
-        requires piece { j.0 < (M.meant (meaning_of self.now)).pieces }
+        requires of { IsOf M.Meaning self.now seat.old }
+        requires piece { j.0 < (means M.Meaning self.now).pieces }
         requires none_lent { (view_of seat.old).lent ≡ None }
-        ensures of { IsOf (λ x. M.meant x) self.now seat.new }
-        ensures answer { LendSays (M.meant (meaning_of self.now)) j.0 (view_of seat.old) result (view_of seat.new) }
+        ensures of { IsOf M.Meaning self.now seat.new }
+        ensures answer { LendSays (means M.Meaning self.now) j.0 (view_of seat.old) result
+            (view_of seat.new) }
     {
         let shared = &self.table.shared;
         let found = shared.compare_exchange::<LendStep>(&mut seat.seat, j.0 as usize, 3, 4);
@@ -40,11 +41,11 @@ impl<M: Meaning> Board<M> {
 
     /// Gives back the outcome that is lent to the seat.
     pub fn give_back(&self, seat: &mut BoardSeat<M>, j: PieceNo, outcome: M::Outcome)
-        requires of { IsOf (λ x. M.meant x) self.now seat.old }
-        requires piece { j.0 < (M.meant (meaning_of self.now)).pieces }
+        requires of { IsOf M.Meaning self.now seat.old }
+        requires piece { j.0 < (means M.Meaning self.now).pieces }
         requires is_lent { (view_of seat.old).lent ≡ Some j.0 }
-        requires is_outcome { outcome ≡ outcome_in_order (M.meant (meaning_of self.now)) j.0 }
-        ensures of { IsOf (λ x. M.meant x) self.now seat.new }
+        requires is_outcome { outcome ≡ outcome_in_order (means M.Meaning self.now) j.0 }
+        ensures of { IsOf M.Meaning self.now seat.new }
         ensures view { view_of seat.new ≡ after_give_back j.0 (view_of seat.old) }
     {
         let shared = &self.table.shared;

@@ -5,12 +5,14 @@ mod answers;
 mod board;
 mod claiming;
 mod closing;
-mod ending;
-mod finishing;
+mod emptying;
+mod holding;
 mod lending;
 mod opening;
+mod seat_list;
 mod seats;
 mod stopping;
 
 pub use answers::{Claim, Lend, Unsettled};
-pub use board::{Board, BoardSeat, Seats};
+pub use board::{Board, BoardSeat};
+pub use seat_list::Seats;

@@ -2,10 +2,11 @@
 
 ghost use Rattle.std.specs.Prelude.{◌≡◌, ◌≤◌, ◌<◌, [], length, IfOk, replicate, vec_capacity};
 ghost use Rattle.board_rule.specs.declared.home.Home.TheVariants.{Empty};
-ghost use Rattle.settle_board.specs.Boards.{meaning_of};
+ghost use Rattle.settle_board.specs.Boards.{meaning_of, means};
 ghost use Rattle.settle_board.specs.Seating.{AreNew, Dealing, seats_in, room_of, seat_count};
 
-use crate::board::{Board, BoardSeat, Seats};
+use crate::board::{Board, BoardSeat};
+use crate::seat_list::Seats;
 use atomic_table::{Refused, Seat, Table};
 use board_rule::{Cut, Home, Key, View};
 use cxx_base::Memory;
@@ -18,7 +19,8 @@ impl<M: Meaning> Board<M> {
     pub fn new(alloc: Global, meaning: M, seats: u32) -> Result<(Board<M>, Seats<M>), Memory>
         requires { (1 ≤ seats) × (seats ≤ 32) }
         ensures meaning { IfOk result (λ made. meaning_of made.0 ≡ meaning) }
-        ensures seats { IfOk result (λ made. (seat_count made.0 ≡ seats) × (room_of made.1 ≡ seats) × (length (seats_in made.1) ≡ seats)) }
+        ensures seats { IfOk result (λ made. (seat_count made.0 ≡ seats) × (room_of made.1 ≡ seats)
+            × (length (seats_in made.1) ≡ seats)) }
         ensures blank { IfOk result (λ made. AreNew (λ x. M.meant x) made.0 (seats_in made.1)) }
     {
         let pieces = meaning.pieces() as usize;
@@ -58,9 +60,11 @@ fn deal<M: Meaning>(
     mut first: Seat<Home<M::Task, M::Outcome>, View<M, M::Task>>,
     mut list: Vec<BoardSeat<M>>,
 ) -> Vec<BoardSeat<M>>
-    requires first { Dealing (M.meant (meaning_of board.now)) board.now.table.shared.table_id board.now.key (seat_count board.now) first }
+    requires first { Dealing (means M.Meaning board.now) board.now.table.shared.table_id
+        board.now.key (seat_count board.now) first }
     requires room { (list.items ≡ []) × (seat_count board.now ≤ vec_capacity list) }
-    ensures seats { (length result.items ≡ seat_count board.now) × (seat_count board.now ≤ vec_capacity result) }
+    ensures seats { (length result.items ≡ seat_count board.now)
+        × (seat_count board.now ≤ vec_capacity result) }
     ensures blank { AreNew (λ x. M.meant x) board.now result.items }
 {
     let mut left = board.key.seats;

@@ -11,8 +11,8 @@ use settle_core::Meaning;
 impl<M: Meaning> Board<M> {
     /// Tells all workers to stop. No call takes this back.
     pub fn stop(&self, seat: &mut BoardSeat<M>)
-        requires of { IsOf (λ x. M.meant x) self.now seat.old }
-        ensures of { IsOf (λ x. M.meant x) self.now seat.new }
+        requires of { IsOf M.Meaning self.now seat.old }
+        ensures of { IsOf M.Meaning self.now seat.new }
         ensures view { view_of seat.new ≡ after_stop (view_of seat.old) }
     {
         let last = self.key.meaning.pieces() as usize;
@@ -21,9 +21,10 @@ impl<M: Meaning> Board<M> {
 
     /// Whether the stop word is set. To a seat that set it or saw it set it is.
     pub fn stopped(&self, seat: &mut BoardSeat<M>) -> bool
-        requires of { IsOf (λ x. M.meant x) self.now seat.old }
-        ensures of { IsOf (λ x. M.meant x) self.now seat.new }
-        ensures view { (w : ℕ) × (view_of seat.new ≡ after_stop_look w (view_of seat.old)) × (w ≤ 1) × (IsTrue result ↔ (w ≡ 1)) }
+        requires of { IsOf M.Meaning self.now seat.old }
+        ensures of { IsOf M.Meaning self.now seat.new }
+        ensures view { (w : ℕ) × (view_of seat.new ≡ after_stop_look w (view_of seat.old)) × (w ≤ 1)
+            × (IsTrue result ↔ (w ≡ 1)) }
         ensures set { IsTrue (view_of seat.old).stopped → IsTrue result }
         ensures seen { IsTrue (view_of seat.old).saw_stop → IsTrue result }
     {

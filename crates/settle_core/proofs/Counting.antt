@@ -1,5 +1,5 @@
 -- How long a list of steps can be.
-use Rattle.std.proofs.Common.{◌≡◌, ℕ, ◌+◌, ◌*◌, ◌<◌, ◌≤◌, List, length, get_or, slice_get, Bool, true, false, cond, ltb, is_some, Option, Some, None, refl, sym, ap, subst, arith}
+use Rattle.std.proofs.Common.{◌≡◌, ℕ, ◌+◌, ◌*◌, ◌<◌, ◌≤◌, List, length, get_or, slice_get, Bool, true, false, ltb, is_some, Option, Some, None, refl, sym, ap, subst, arith, if◌then◌else◌}
 use mathlib.Core.Logic.{dite}
 use native.Mathlib.Decide.{dec_lt}
 use Rattle.std.proofs.lemmas.Bool.{le-ltb}
@@ -26,10 +26,10 @@ module _ {T O : Type 0} (m : Meant T O) where
     bonus_stays : (n : ℕ) → bonus m s k n ≤ bonus m t k n
     bonus_stays n = by_cases (ltb n (length (reads m k))) (is_some (settled_at s (get_or (reads m k) n 0))) (is_some (settled_at t (get_or (reads m k) n 0))) (grows (get_or (reads m k) n 0))
       where
-        by_cases : (a b c : Bool) → (b ≡ true → c ≡ true) → cond a (cond b 2 0) 0 ≤ cond a (cond c 2 0) 0
+        by_cases : (a b c : Bool) → (b ≡ true → c ≡ true) → (if a then (if b then 2 else 0) else 0) ≤ (if a then (if c then 2 else 0) else 0)
         by_cases false b c h = omega arith
         by_cases true false c h = omega arith
-        by_cases true true c h = subst (λ (x : Bool). 2 ≤ cond x 2 0) (sym (h refl)) (omega arith)
+        by_cases true true c h = subst (λ (x : Bool). 2 ≤ (if x then 2 else 0)) (sym (h refl)) (omega arith)
 
     spent_stays : (p : PieceState O) → spent m s k p ≤ spent m t k p
     spent_stays Fresh = omega arith
@@ -45,9 +45,9 @@ module _ {T O : Type 0} (m : Meant T O) where
     bonus_small : (n : ℕ) → n ≤ length (reads m k) → 3 * n + bonus m s k n ≤ 3 * length (reads m k)
     bonus_small n l = dite (dec_lt n (length (reads m k)))
         (λ (h : n < length (reads m k)). let b = two (ltb n (length (reads m k))) (is_some (settled_at s (get_or (reads m k) n 0))) in omega arith)
-        (λ (h : n < length (reads m k) → ⊥). let b : bonus m s k n ≡ 0 = ap (λ b. cond b (cond (is_some (settled_at s (get_or (reads m k) n 0))) 2 0) 0) (le-ltb n (length (reads m k)) (omega arith)) in omega arith)
+        (λ (h : n < length (reads m k) → ⊥). let b : bonus m s k n ≡ 0 = ap (λ b. if b then (if is_some (settled_at s (get_or (reads m k) n 0)) then 2 else 0) else 0) (le-ltb n (length (reads m k)) (omega arith)) in omega arith)
       where
-        two : (a b : Bool) → cond a (cond b 2 0) 0 ≤ 2
+        two : (a b : Bool) → (if a then (if b then 2 else 0) else 0) ≤ 2
         two true true = omega arith
         two true false = omega arith
         two false b = omega arith

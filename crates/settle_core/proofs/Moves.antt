@@ -1,5 +1,5 @@
 -- What one step makes of a piece, in a sound state: a sound piece, and a step more.
-use Rattle.std.proofs.Common.{◌≡◌, ℕ, ◌+◌, ◌*◌, ◌<◌, ◌≤◌, List, [], ◌∷◌, ◌++◌, length, length-append, get_or, slice_get, Bool, true, false, cond, ltb, lt-ltb, if◌then◌else◌, ◌==◌, is_some, Option, Some, None, refl, sym, ap, ◌∙◌, subst, arith, ⊎_elim}
+use Rattle.std.proofs.Common.{◌≡◌, ℕ, ◌+◌, ◌*◌, ◌<◌, ◌≤◌, List, [], ◌∷◌, ◌++◌, length, length-append, get_or, slice_get, Bool, true, false, ltb, lt-ltb, if◌then◌else◌, ◌==◌, is_some, Option, Some, None, refl, sym, ap, ◌∙◌, subst, arith, ⊎_elim}
 use Rattle.std.proofs.lemmas.Bool.{le-ltb, eqb-true}
 use Rattle.cxx_base.specs.declared.number.PieceNo.{PieceNo}
 use Rattle.settle_core.specs.Meant.{Meant, Lawful, outcome, reads}
@@ -11,21 +11,21 @@ use Rattle.settle_core.specs.Bound.{idle}
 use Rattle.settle_core.proofs.Options.{some_injective, none_is_no_some, from_map}
 use Rattle.settle_core.proofs.Tasks.{front_length, takes_more, is_advanced, next_cases}
 
-pub one_at_most : (b : Bool) → cond b 1 0 ≤ 1
+pub one_at_most : (b : Bool) → (if b then 1 else 0) ≤ 1
 one_at_most true = omega arith
 one_at_most false = omega arith
 
 module _ {T O : Type 0} (m : Meant T O) (s : List (PieceState O)) where
   -- 2 for a task that has taken n reads and whose next read is settled
   abbrev pub bonus : ℕ → ℕ → ℕ
-  bonus k n = cond (ltb n (length (reads m k))) (cond (is_some (settled_at s (get_or (reads m k) n 0))) 2 0) 0
+  bonus k n = if ltb n (length (reads m k)) then (if is_some (settled_at s (get_or (reads m k) n 0)) then 2 else 0) else 0
 
   -- The most steps that a piece can have had, where each Park on a settled piece counts 2 less: a claim, an Advance for each read taken, a
   -- Park and a Resume for each of these and for the next one where that is settled, and an Advance without a read
   abbrev pub spent : ℕ → PieceState O → ℕ
   spent k Fresh = 0
-  spent k (Held worker taken mark) = 1 + 3 * length taken + cond mark 1 0 + bonus k (length taken)
-  spent k (Parked taken mark on) = 2 + 3 * length taken + cond mark 1 0
+  spent k (Held worker taken mark) = 1 + 3 * length taken + (if mark then 1 else 0) + bonus k (length taken)
+  spent k (Parked taken mark on) = 2 + 3 * length taken + (if mark then 1 else 0)
   spent k (Settled o) = 3 + 3 * length (reads m k)
 
 module _ {T O : Type 0} (m : Meant T O) (s : List (PieceState O)) (sound : Sound m s) where
@@ -47,16 +47,16 @@ module _ {T O : Type 0} (m : Meant T O) (lawful : Lawful m) (next : ℕ → List
     pub more : spent m s k p + 1 ≤ spent m s k q + 2 * i
 
   bonus_ends : (n : ℕ) → n ≡ length (reads m k) → bonus m s k n ≡ 0
-  bonus_ends n e = ap (λ b. cond b (cond (is_some (settled_at s (get_or (reads m k) n 0))) 2 0) 0) (le-ltb n (length (reads m k)) (omega arith))
+  bonus_ends n e = ap (λ b. if b then (if is_some (settled_at s (get_or (reads m k) n 0)) then 2 else 0) else 0) (le-ltb n (length (reads m k)) (omega arith))
 
   bonus_settled : (n : ℕ) → n < length (reads m k) → IsSettledAt s (get_or (reads m k) n 0) → bonus m s k n ≡ 2
-  bonus_settled n l e = ap (λ b. cond b (cond (is_some (settled_at s (get_or (reads m k) n 0))) 2 0) 0) (lt-ltb n (length (reads m k)) l)
-      ∙ ap (λ b. cond b 2 0) e
+  bonus_settled n l e = ap (λ b. if b then (if is_some (settled_at s (get_or (reads m k) n 0)) then 2 else 0) else 0) (lt-ltb n (length (reads m k)) l)
+      ∙ ap (λ b. if b then 2 else 0) e
 
-  bonus_idle : (n j : ℕ) → j ≡ get_or (reads m k) n 0 → bonus m s k n ≤ 2 * cond (is_some (settled_at s j)) 1 0
-  bonus_idle n j e = subst (λ (i : ℕ). bonus m s k n ≤ 2 * cond (is_some (settled_at s i)) 1 0) (sym e) (few (ltb n (length (reads m k))) (is_some (settled_at s (get_or (reads m k) n 0))))
+  bonus_idle : (n j : ℕ) → j ≡ get_or (reads m k) n 0 → bonus m s k n ≤ 2 * (if is_some (settled_at s j) then 1 else 0)
+  bonus_idle n j e = subst (λ (i : ℕ). bonus m s k n ≤ 2 * (if is_some (settled_at s i) then 1 else 0)) (sym e) (few (ltb n (length (reads m k))) (is_some (settled_at s (get_or (reads m k) n 0))))
     where
-      few : (a b : Bool) → cond a (cond b 2 0) 0 ≤ 2 * cond b 1 0
+      few : (a b : Bool) → (if a then (if b then 2 else 0) else 0) ≤ 2 * (if b then 1 else 0)
       few true true = omega arith
       few true false = omega arith
       few false true = omega arith
@@ -83,7 +83,7 @@ module _ {T O : Type 0} (m : Meant T O) (lawful : Lawful m) (next : ℕ → List
     }
 
     ends : mark ≡ false → t.count ≡ length (reads m k) → Moved 0 (Held worker taken mark) (Held worker taken true)
-    ends e l = record { is_sound = is_advanced m s k taken mark t l; more = let f : cond {A = ℕ} mark 1 0 ≡ 0 = ap (λ b. cond {A = ℕ} b 1 0) e in omega arith }
+    ends e l = record { is_sound = is_advanced m s k taken mark t l; more = let f : if◌then◌else◌ {A = ℕ} mark 1 0 ≡ 0 = ap (λ b. if◌then◌else◌ {A = ℕ} b 1 0) e in omega arith }
 
     ends_by : (b : Bool) → mark ≡ b → t.count ≡ length (reads m k) → (q : PieceState O) → after_advance s worker taken b (Ends (outcome m k)) ≡ Some q → Moved 0 (Held worker taken mark) q
     ends_by true h l q e = absurd (none_is_no_some q e)
@@ -96,23 +96,23 @@ module _ {T O : Type 0} (m : Meant T O) (lawful : Lawful m) (next : ℕ → List
         (λ r. ends_by mark refl r.1 q (sym (ap (after_advance s worker taken mark) r.0) ∙ e))
         (next_cases m k taken t.count t.within t.prefix next law inside)
 
-    parks_on : (on : PieceNo) → on.0 ≡ j → t.count < length (reads m k) → Moved (cond (is_some (settled_at s on.0)) 1 0) (Held worker taken mark) (Parked taken mark on)
+    parks_on : (on : PieceNo) → on.0 ≡ j → t.count < length (reads m k) → Moved (if is_some (settled_at s on.0) then 1 else 0) (Held worker taken mark) (Parked taken mark on)
     parks_on on e l = record {
       is_sound = record { task = t; has_next = l; is_next = e; below = subst (λ (i : ℕ). i < k) (sym e) (lawful.below k t.count inside l) };
       more = let n = front_length m k taken t.count t.within t.prefix in
-          let b : bonus m s k (length taken) ≤ 2 * cond (is_some (settled_at s on.0)) 1 0 = subst (λ (i : ℕ). bonus m s k i ≤ 2 * cond (is_some (settled_at s on.0)) 1 0) (sym n) (bonus_idle t.count on.0 e) in
+          let b : bonus m s k (length taken) ≤ 2 * (if is_some (settled_at s on.0) then 1 else 0) = subst (λ (i : ℕ). bonus m s k i ≤ 2 * (if is_some (settled_at s on.0) then 1 else 0)) (sym n) (bonus_idle t.count on.0 e) in
           omega arith;
     }
 
-    parks : (on : PieceNo) (q : PieceState O) → after_park on taken mark (next k taken) ≡ Some q → Moved (cond (is_some (settled_at s on.0)) 1 0) (Held worker taken mark) q
+    parks : (on : PieceNo) (q : PieceState O) → after_park on taken mark (next k taken) ≡ Some q → Moved (if is_some (settled_at s on.0) then 1 else 0) (Held worker taken mark) q
     parks on q e = ⊎_elim
         (λ r. let f : after_park on taken mark (Read (record { 0 = j })) ≡ Some q = sym (ap (after_park on taken mark) r.0) ∙ e in
         chosen (j == on.0) refl f r.1)
         (λ r. absurd (none_is_no_some q (sym (ap (after_park on taken mark) r.0) ∙ e)))
         (next_cases m k taken t.count t.within t.prefix next law inside)
       where
-        chosen : (b : Bool) → (j == on.0) ≡ b → (if b then Some (Parked taken mark on) else None) ≡ Some q → t.count < length (reads m k) → Moved (cond (is_some (settled_at s on.0)) 1 0) (Held worker taken mark) q
-        chosen true h f l = subst (Moved (cond (is_some (settled_at s on.0)) 1 0) (Held worker taken mark)) (some_injective (Parked taken mark on) q f) (parks_on on (sym (eqb-true j on.0 h)) l)
+        chosen : (b : Bool) → (j == on.0) ≡ b → (if b then Some (Parked taken mark on) else None) ≡ Some q → t.count < length (reads m k) → Moved (if is_some (settled_at s on.0) then 1 else 0) (Held worker taken mark) q
+        chosen true h f l = subst (Moved (if is_some (settled_at s on.0) then 1 else 0) (Held worker taken mark)) (some_injective (Parked taken mark on) q f) (parks_on on (sym (eqb-true j on.0 h)) l)
         chosen false h f l = absurd (none_is_no_some q f)
 
     settles_by : (b : Bool) → mark ≡ b → t.count ≡ length (reads m k) → (q : PieceState O) → after_settle b (Ends (outcome m k)) ≡ Some q → Moved 0 (Held worker taken mark) q
@@ -120,7 +120,7 @@ module _ {T O : Type 0} (m : Meant T O) (lawful : Lawful m) (next : ℕ → List
       is_sound = refl;
       more = let n = front_length m k taken t.count t.within t.prefix in
           let b : bonus m s k (length taken) ≡ 0 = bonus_ends (length taken) (n ∙ l) in
-          let f : cond {A = ℕ} mark 1 0 ≡ 1 = ap (λ b. cond {A = ℕ} b 1 0) h in omega arith;
+          let f : if◌then◌else◌ {A = ℕ} mark 1 0 ≡ 1 = ap (λ b. if◌then◌else◌ {A = ℕ} b 1 0) h in omega arith;
     }
     settles_by false h l q e = absurd (none_is_no_some q e)
 

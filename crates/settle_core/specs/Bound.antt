@@ -1,5 +1,5 @@
 -- How long a list of steps can be.
-use Rattle.std.specs.Prelude.{ℕ, zero, suc, ◌+◌, ◌*◌, ◌≤◌, List, [], ◌∷◌, length, cond, is_some}
+use Rattle.std.specs.Prelude.{ℕ, zero, suc, ◌+◌, ◌*◌, ◌≤◌, List, [], ◌∷◌, length, is_some, if◌then◌else◌}
 use Rattle.std.specs.Option.{option_map, unwrap_or}
 use Rattle.settle_core.specs.Meant.{Meant, reads}
 use Rattle.settle_core.specs.declared.next_of.NextOf.{NextOf}
@@ -17,7 +17,7 @@ reads_of_all m = sum_below (λ k. length (reads m k)) m.pieces
 
 -- 1 for a Park on a piece that is settled at that step
 abbrev pub idle : {O : Type 0} → List (PieceState O) → CoreStep → ℕ
-idle s (Park k on) = cond (is_some (settled_at s on.0)) 1 0
+idle s (Park k on) = if is_some (settled_at s on.0) then 1 else 0
 idle s step = 0
 
 module _ {O : Type 0} (next : ℕ → List (ℕ × O) → NextOf O) where

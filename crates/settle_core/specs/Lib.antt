@@ -4,5 +4,3 @@ pub mod State
 pub mod Steps
 pub mod Sound
 pub mod Bound
-pub mod Sample
-pub mod SampleLaws

@@ -1,4 +1,4 @@
--- What a meaning gives for each piece, and its fold: the outcomes of the pieces in order.
+-- What a meaning gives for each piece, and its fold: the outcomes of the pieces in order, which work in order makes one after the other.
 use Rattle.std.specs.Prelude.{◌≡◌, ◌≢◌, ℕ, zero, suc, ◌^◌, ◌<◌, ◌≤◌, List, [], ◌∷◌, ◌++◌, length, slice_index, Bool, ltb}
 
 -- The pieces, numbered from 0. What a piece reads and comes to is a function of the outcomes of the pieces before it.
@@ -20,18 +20,18 @@ pub record Meant (T O : Type 0) : Type 1 where
   pub outcome_steps : O → ℕ
 
 module _ {T O : Type 0} (m : Meant T O) where
-  -- the fold: the outcomes of the first n pieces, each over those before it
-  abbrev pub fold : ℕ → List O
-  fold zero = []
-  fold (suc k) = fold k ++ m.outcome_over k (fold k) ∷ []
+  -- the fold: the outcomes of the pieces below n, each over those before it
+  abbrev pub outcomes_below : ℕ → List O
+  outcomes_below zero = []
+  outcomes_below (suc k) = outcomes_below k ++ m.outcome_over k (outcomes_below k) ∷ []
 
   -- the outcome of the piece k in the fold
   unfoldable pub outcome : ℕ → O
-  outcome k = m.outcome_over k (fold k)
+  outcome k = m.outcome_over k (outcomes_below k)
 
   -- its reads in the fold
   unfoldable pub reads : ℕ → List ℕ
-  reads k = m.reads_over k (fold k)
+  reads k = m.reads_over k (outcomes_below k)
 
   -- What holds of each meaning
   pub record Lawful : Type 0 where

@@ -1,7 +1,7 @@
 //! The fold, computed.
 
 ghost use Rattle.std.specs.Prelude.{◌≡◌, ◌<◌, IfOk};
-ghost use Rattle.settle_core.specs.Meant.{fold, outcome};
+ghost use Rattle.settle_core.specs.Meant.{outcomes_below, outcome};
 
 use crate::next_of::NextOf;
 use crate::played::Played;
@@ -12,7 +12,8 @@ use std::alloc::Global;
 /// The outcomes of all pieces, one after the other: each piece takes what it reads from those before it. What the machine
 /// settles, in whatever order, is compared with this.
 pub fn in_order<M: Played>(alloc: Global, meaning: &M) -> Result<Vec<M::Outcome>, Memory>
-    ensures { IfOk result (λ outcomes. outcomes.items ≡ fold (M.meant meaning.now) (M.meant meaning.now).pieces) }
+    ensures { IfOk result (λ outcomes.
+        outcomes.items ≡ outcomes_below (M.meant meaning.now) (M.meant meaning.now).pieces) }
 {
     let mut outcomes = Vec::new(alloc);
     for k in 0..meaning.pieces() {
@@ -30,7 +31,7 @@ fn play<M: Played>(
     before: &[M::Outcome],
 ) -> Result<M::Outcome, Memory>
     requires inside { k.0 < (M.meant meaning.now).pieces }
-    requires before { before.now ≡ fold (M.meant meaning.now) k.0 }
+    requires before { before.now ≡ outcomes_below (M.meant meaning.now) k.0 }
     ensures { IfOk result (λ o. o ≡ outcome (M.meant meaning.now) k.0) }
 {
     let mut taken = TakenList::new(alloc);

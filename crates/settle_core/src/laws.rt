@@ -14,14 +14,21 @@ use crate::meaning::Meaning;
 /// unsettled one. And a list of steps has no more of them than 3 for each piece, 3 for each read, and 2 for each Park on a piece
 /// that was settled.
 pub fn every_order_is_sound<M: Meaning>(meaning: &M)
-    ensures sound { (next : ℕ → List (ℕ × M.Outcome) → NextOf M.Outcome) (s : List (PieceState M.Outcome)) →
-        IsNext (M.meant meaning.now) next → IsReached next (M.meant meaning.now).pieces s → Sound (M.meant meaning.now) s }
-    ensures fold { (next : ℕ → List (ℕ × M.Outcome) → NextOf M.Outcome) (s : List (PieceState M.Outcome)) →
-        IsNext (M.meant meaning.now) next → IsReached next (M.meant meaning.now).pieces s → SettlesFold (M.meant meaning.now) s }
-    ensures earliest { (next : ℕ → List (ℕ × M.Outcome) → NextOf M.Outcome) (s : List (PieceState M.Outcome)) →
-        IsNext (M.meant meaning.now) next → IsReached next (M.meant meaning.now).pieces s → EarliestGoesOn s }
+    ensures sound { (next : ℕ → List (ℕ × M.Outcome) → NextOf M.Outcome)
+        (s : List (PieceState M.Outcome)) →
+        IsNext (M.meant meaning.now) next → IsReached next (M.meant meaning.now).pieces s →
+        Sound (M.meant meaning.now) s }
+    ensures fold { (next : ℕ → List (ℕ × M.Outcome) → NextOf M.Outcome)
+        (s : List (PieceState M.Outcome)) →
+        IsNext (M.meant meaning.now) next → IsReached next (M.meant meaning.now).pieces s →
+        SettlesFold (M.meant meaning.now) s }
+    ensures earliest { (next : ℕ → List (ℕ × M.Outcome) → NextOf M.Outcome)
+        (s : List (PieceState M.Outcome)) →
+        IsNext (M.meant meaning.now) next → IsReached next (M.meant meaning.now).pieces s →
+        EarliestGoesOn s }
     ensures bound { (next : ℕ → List (ℕ × M.Outcome) → NextOf M.Outcome) (steps : List CoreStep) →
-        IsNext (M.meant meaning.now) next → IsSome (replayed next (all_fresh (M.meant meaning.now).pieces) steps) →
+        IsNext (M.meant meaning.now) next →
+        IsSome (replayed next (all_fresh (M.meant meaning.now).pieces) steps) →
         IsWithinBound (M.meant meaning.now) next steps }
 {}
 

@@ -8,6 +8,9 @@ ghost use Rattle.settle_core.specs.Meant.{Meant, Lawful};
 /// `meant` has for each piece its reads and its outcome, as functions of the outcomes of the pieces before it, and says which
 /// tasks are its own for a piece, how many reads a task has taken, whether it was advanced, and the steps of a task and of an
 /// outcome.
+///
+/// A board has a slot for each piece in which a task or an outcome lies, and room for every outcome. So `Task` and `Outcome` are of one
+/// word each, a box or a count of what is large: with 65,536 pieces a board then takes 2 MiB.
 pub trait Meaning: Drop {
     type Task: Drop;
 

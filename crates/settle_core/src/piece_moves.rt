@@ -57,7 +57,8 @@ fn advance<M: Played>(
     piece: PieceState<M::Outcome>,
 ) -> Result<Option<PieceState<M::Outcome>>, Memory>
     requires { k.0 < (M.meant meaning.now).pieces }
-    ensures { IfOk result (λ after. after ≡ made (M.next_of meaning.now) state.now (Advance k) piece) }
+    ensures { IfOk result (λ after.
+        after ≡ made (M.next_of meaning.now) state.now (Advance k) piece) }
 {
     let PieceState::Held {
         worker,

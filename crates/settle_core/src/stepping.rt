@@ -48,7 +48,8 @@ pub fn replay<M: Played>(
     steps: &[CoreStep],
 ) -> Result<Option<CoreState<M>>, Memory>
     ensures exact { IfOk result (λ after.
-        after ≡ replayed (M.next_of meaning.now) (all_fresh (M.meant meaning.now).pieces) steps.now) }
+        after ≡ replayed (M.next_of meaning.now) (all_fresh (M.meant meaning.now).pieces)
+        steps.now) }
     ensures sound { IfOk result (λ after. IfSome after (Sound (M.meant meaning.now))) }
     ensures fold { IfOk result (λ after. IfSome after (SettlesFold (M.meant meaning.now))) }
     ensures earliest { IfOk result (λ after. IfSome after EarliestGoesOn) }

@@ -3,7 +3,6 @@
 ghost use Rattle.std.specs.Prelude.{◌≡◌, length, IfOk, IfSome};
 
 use crate::ends::no_more;
-use crate::sample::Sample;
 use crate::shown::{look_at, look_at_all};
 use crate::step_words::{numbers_of, step_of, steps_of};
 use cxx_base::{Memory, PieceNo};
@@ -12,8 +11,12 @@ use settle_core::{
     CoreState, CoreStep, TakenList, every_order_is_sound, in_order, reads_say_what_is_next, replay,
     step,
 };
+use settle_samples::Three;
 use std::alloc::Global;
 use std::str::SplitWhitespace;
+
+/// The three pieces, of which piece 2 reads piece 0 and then piece 1.
+const PIECES: Three = Three { first: 5 };
 
 /// Puts the answer at the end of a text.
 pub fn append_answer(alloc: Global, out: &mut String, row: &str) -> Result<(), RowFault> {
@@ -32,7 +35,7 @@ pub fn append_answer(alloc: Global, out: &mut String, row: &str) -> Result<(), R
         }
         "in_order" => {
             no_more(&mut words)?;
-            show(out, &in_order(alloc, &Sample)?.as_slice())
+            show(out, &in_order(alloc, &PIECES)?.as_slice())
         }
         "taken" => {
             let k = parsed::<u32>(next_word(&mut words)?)?;
@@ -40,8 +43,8 @@ pub fn append_answer(alloc: Global, out: &mut String, row: &str) -> Result<(), R
         }
         "laws" => {
             no_more(&mut words)?;
-            every_order_is_sound(&Sample);
-            reads_say_what_is_next(&Sample);
+            every_order_is_sound(&PIECES);
+            reads_say_what_is_next(&PIECES);
             Ok(out.push_str("hold")?)
         }
         _ => Err(RowFault::Unread),
@@ -50,10 +53,10 @@ pub fn append_answer(alloc: Global, out: &mut String, row: &str) -> Result<(), R
 
 // The state after a list of steps.
 fn append_replayed(alloc: Global, out: &mut String, steps: &[CoreStep]) -> Result<(), RowFault> {
-    append_state(out, replay(alloc, &Sample, steps)?)
+    append_state(out, replay(alloc, &PIECES, steps)?)
 }
 
-fn append_state(out: &mut String, state: Option<CoreState<Sample>>) -> Result<(), RowFault> {
+fn append_state(out: &mut String, state: Option<CoreState<Three>>) -> Result<(), RowFault> {
     match state {
         Some(state) => show(out, &look_at_all(&state)),
         None => Ok(out.push_str("refused")?),
@@ -83,8 +86,8 @@ fn append_after(
     steps: &[CoreStep],
     next: CoreStep,
 ) -> Result<(), RowFault> {
-    match replay(alloc, &Sample, steps)? {
-        Some(state) => append_state(out, step(alloc, &Sample, state, next)?),
+    match replay(alloc, &PIECES, steps)? {
+        Some(state) => append_state(out, step(alloc, &PIECES, state, next)?),
         None => Err(RowFault::Unread),
     }
 }
@@ -102,10 +105,10 @@ fn append_at(
     }
 }
 
-fn stepped(alloc: Global, steps: &[CoreStep]) -> Result<Option<CoreState<Sample>>, Memory> {
-    let mut state = CoreState::fresh(alloc, &Sample)?;
+fn stepped(alloc: Global, steps: &[CoreStep]) -> Result<Option<CoreState<Three>>, Memory> {
+    let mut state = CoreState::fresh(alloc, &PIECES)?;
     for next in steps {
-        let Some(after) = step(alloc, &Sample, state, *next)? else {
+        let Some(after) = step(alloc, &PIECES, state, *next)? else {
             return Ok(None);
         };
         state = after;

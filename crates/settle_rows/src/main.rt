@@ -1,4 +1,4 @@
-//! Answers rows of calls of `settle_core`, `settle_board` and `board_callers`: each line of the input with what its call gives.
+//! Answers rows of calls of `settle_core`, `settle_board`, `piece_search` and `board_callers`: each line of the input with what its call gives.
 //!
 //! A line is `settle_core`, or `board` for a board that one thread uses, or `threads`, then a call and the arguments, as
 //! `settle_core replay claim/0/7`. A line that begins with `#` is a remark and is repeated, and so is an empty one.
@@ -6,16 +6,16 @@
 
 mod answer;
 mod ends;
-mod handing;
 mod in_threads;
 mod machine;
 mod many_seats;
 mod rows;
-mod sample;
 mod seat_calls;
 mod shown;
+mod sizes;
 mod step_words;
-mod turns;
+mod taking;
+mod two_seats;
 
 use io_edge::{FromRead, ToWrite};
 use rows::run;

@@ -1,14 +1,15 @@
 //! Rows of boards of pieces without reads.
 
 ghost use Rattle.std.specs.Prelude.{◌≡◌, ◌<◌, ◌≤◌, [], ◌∷◌, length, IfOk};
-ghost use Rattle.settle_board.specs.Boards.{IsOf, meaning_of, view_of};
+ghost use Rattle.settle_board.specs.Boards.{meaning_of, view_of};
 ghost use Rattle.settle_board.specs.Seating.{AreBack, AreNew, seats_in, room_of, seat_count};
-ghost use Rattle.board_callers.specs.Pieces.{pieces_without_reads};
+ghost use Rattle.settle_samples.specs.Readless.{pieces_without_reads};
 
-use board_callers::{Many, settle_some};
+use board_callers::settle_some;
 use cxx_base::{Memory, OutcomeList, PieceNo};
 use row_edge::{RowFault, next_word, parsed, show};
 use settle_board::{Board, BoardSeat, Seats};
+use settle_samples::Readless;
 use std::alloc::Global;
 use std::str::SplitWhitespace;
 
@@ -28,7 +29,7 @@ pub fn append_many(
     if seats == 0 || seats > MOST_SEATS {
         return Err(RowFault::Unread);
     }
-    let (board, seats) = Board::new(alloc, Many { pieces }, seats)?;
+    let (board, seats) = Board::new(alloc, Readless { pieces }, seats)?;
     let seats = settle_with_all(alloc, &board, seats, pieces, each)?;
     match board.close(seats) {
         Ok(outcomes) => append_outcomes(out, &outcomes, words),
@@ -53,15 +54,16 @@ fn append_outcomes(
 // Each seat settles so many of the pieces.
 fn settle_with_all(
     alloc: Global,
-    board: &Board<Many>,
-    mut seats: Seats<Many>,
+    board: &Board<Readless>,
+    mut seats: Seats<Readless>,
     pieces: u32,
     each: u32,
-) -> Result<Seats<Many>, Memory>
+) -> Result<Seats<Readless>, Memory>
     requires seats { AreNew (λ x. pieces_without_reads x.pieces) board.now (seats_in seats) }
     requires all { length (seats_in seats) ≡ room_of seats }
     requires pieces { pieces ≡ (meaning_of board.now).pieces }
-    ensures seats { IfOk result (λ r. AreBack (λ x. pieces_without_reads x.pieces) board.now (seats_in r)) }
+    ensures seats { IfOk result (λ r.
+        AreBack (λ x. pieces_without_reads x.pieces) board.now (seats_in r)) }
     ensures all { IfOk result (λ r. length (seats_in r) ≡ room_of seats) }
 {
     let mut done = Vec::new(alloc);
@@ -89,10 +91,10 @@ fn end(first: u32, each: u32, pieces: u32) -> u32
 
 // The seats come back.
 fn give_all(
-    board: &Board<Many>,
-    mut seats: Seats<Many>,
-    mut done: Vec<BoardSeat<Many>>,
-) -> Seats<Many>
+    board: &Board<Readless>,
+    mut seats: Seats<Readless>,
+    mut done: Vec<BoardSeat<Readless>>,
+) -> Seats<Readless>
     requires seats { (seats_in seats ≡ []) × (length done.items ≡ room_of seats) }
     requires done { AreBack (λ x. pieces_without_reads x.pieces) board.now done.items }
     ensures seats { AreBack (λ x. pieces_without_reads x.pieces) board.now (seats_in result) }

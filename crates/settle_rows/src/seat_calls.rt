@@ -1,14 +1,19 @@
 //! Rows of single calls of two seats of a board.
 
-ghost use Rattle.settle_board.specs.Boards.{IsOf};
-ghost use Rattle.board_callers.specs.ThreePieces.{three_pieces};
+ghost use Rattle.settle_board.specs.Boards.{IsOfBy};
+ghost use Rattle.settle_samples.specs.ThreePieces.{three_pieces};
 
-use board_callers::{Found, Three, open_three, scan};
+use crate::two_seats::{Opened, open};
 use cxx_base::PieceNo;
+use piece_search::{Found, search};
 use row_edge::{RowFault, parsed, show};
 use settle_board::{Board, BoardSeat, Claim};
+use settle_samples::Three;
 use std::alloc::Global;
 use std::str::SplitWhitespace;
+
+/// What piece 0 comes to.
+const FIRST: u64 = 5;
 
 /// `seats` and words as `a/stop` or `b/claim/2`: what each call gives, of the seat `a` or `b` of a new board of the three pieces.
 pub fn append_calls(
@@ -16,7 +21,12 @@ pub fn append_calls(
     out: &mut String,
     words: SplitWhitespace<'_>,
 ) -> Result<(), RowFault> {
-    let (board, _seats, mut a, mut b) = open_three(alloc)?;
+    let Opened {
+        board,
+        seats: _,
+        first: mut a,
+        second: mut b,
+    } = open(alloc, FIRST)?;
     for word in words {
         match word.split_once('/') {
             Some(("a", call)) => append_call(out, &board, &mut a, call)?,
@@ -34,11 +44,10 @@ fn append_call(
     seat: &mut BoardSeat<Three>,
     call: &str,
 ) -> Result<(), RowFault>
-    requires { IsOf (λ _. three_pieces) board.now seat.old }
-    ensures { IsOf (λ _. three_pieces) board.now seat.new }
+    requires { IsOfBy (λ x. three_pieces x.first) board.now seat.old }
+    ensures { IsOfBy (λ x. three_pieces x.first) board.now seat.new }
 {
     match call {
-        "scan" => append_found(out, scan(board, seat, 3)),
         "stop" => {
             board.stop(seat);
             Ok(out.push_str("set")?)
@@ -55,8 +64,8 @@ fn append_at_piece(
     seat: &mut BoardSeat<Three>,
     call: &str,
 ) -> Result<(), RowFault>
-    requires { IsOf (λ _. three_pieces) board.now seat.old }
-    ensures { IsOf (λ _. three_pieces) board.now seat.new }
+    requires { IsOfBy (λ x. three_pieces x.first) board.now seat.old }
+    ensures { IsOfBy (λ x. three_pieces x.first) board.now seat.new }
 {
     let Some((name, number)) = call.split_once('/') else {
         return Err(RowFault::Unread);
@@ -66,6 +75,7 @@ fn append_at_piece(
         return Err(RowFault::Unread);
     }
     match name {
+        "search" => append_found(out, search(board, seat, 3, k)),
         "look" => show(out, &board.look(seat, PieceNo(k))),
         "claim" => append_claimed(out, board.claim(seat, PieceNo(k))),
         _ => Err(RowFault::Unread),

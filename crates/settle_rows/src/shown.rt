@@ -1,8 +1,8 @@
 //! States of the machine, as the answers have them.
 
-use crate::sample::Sample;
 use cxx_base::PieceNo;
 use settle_core::{CoreState, PieceState};
+use settle_samples::Three;
 
 /// A piece of a state.
 #[derive(Clone, Copy, Debug)]
@@ -19,7 +19,7 @@ pub enum Shown {
 }
 
 /// A piece of a state.
-pub fn look_at(state: &CoreState<Sample>, k: PieceNo) -> Shown {
+pub fn look_at(state: &CoreState<Three>, k: PieceNo) -> Shown {
     match state.at(k) {
         None => Shown::Nowhere,
         Some(PieceState::Fresh) => Shown::Fresh,
@@ -42,7 +42,7 @@ pub fn look_at(state: &CoreState<Sample>, k: PieceNo) -> Shown {
 }
 
 /// The three pieces of a state.
-pub fn look_at_all(state: &CoreState<Sample>) -> [Shown; 3] {
+pub fn look_at_all(state: &CoreState<Three>) -> [Shown; 3] {
     [
         look_at(state, PieceNo(0)),
         look_at(state, PieceNo(1)),

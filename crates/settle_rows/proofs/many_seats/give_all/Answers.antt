@@ -2,8 +2,11 @@ use Rattle.std.proofs.Common.{◌≡◌, ◌+◌, ◌∙◌, length, arith}
 use Rattle.settle_board.specs.Seating.{seats_in}
 use Rattle.settle_board.proofs.Joined.{last_back, rest_back, last_length}
 use Rattle.settle_board.proofs.SeatLists.{given_back, one_longer}
-use Rattle.board_callers.specs.Pieces.{pieces_without_reads}
+use Rattle.settle_samples.specs.Readless.{pieces_without_reads}
 use Rattle.settle_rows.proofs.many_seats.give_all.Goals as goal
+
+pub give-requires-clause-idle : goal.give-requires-clause-idle
+give-requires-clause-idle c = (last_back _ _ _ c.in-Some.ensures.items (λ x. pieces_without_reads x.pieces) c.args.board.now c.loop-seat.invariant.done).1
 
 pub loop-seat-preserved : goal.loop-seat-preserved
 loop-seat-preserved c = let v = c.loop-seat.invariant in let p = c.in-Some.ensures in

@@ -1,6 +1,6 @@
 use Rattle.std.proofs.Common.{◌≡◌, ◌+◌, ◌≤◌, length}
 use Rattle.settle_board.specs.Seating.{AreBack, AreNew, seats_in, room_of}
-use Rattle.board_callers.specs.Pieces.{pieces_without_reads}
+use Rattle.settle_samples.specs.Readless.{pieces_without_reads}
 use Rattle.settle_rows.proofs.many_seats.settle_with_all.Given as goal
 
 abbrev pub invariant-loop-seat : goal.invariant-loop-seat

@@ -1,9 +1,9 @@
-use Rattle.settle_board.specs.Boards.{IsOf}
-use Rattle.board_callers.specs.ThreePieces.{three_pieces}
+use Rattle.settle_board.specs.Boards.{IsOfBy}
+use Rattle.settle_samples.specs.ThreePieces.{three_pieces}
 use Rattle.settle_rows.proofs.seat_calls.append_calls.Given as goal
 
 abbrev pub invariant-loop-word : goal.invariant-loop-word
 invariant-loop-word l = record {
-  a : IsOf (λ _. three_pieces) l.board l.a;
-  b : IsOf (λ _. three_pieces) l.board l.b;
+  a : IsOfBy (λ x. three_pieces x.first) l.board l.a;
+  b : IsOfBy (λ x. three_pieces x.first) l.board l.b;
 }

@@ -1,0 +1,2 @@
+pub mod TurnParts
+pub mod FoundSays
