@@ -1,0 +1,5 @@
+pub mod Trees
+pub mod Objects
+pub mod Access
+pub mod Pointers
+pub mod Answers
