@@ -150,8 +150,8 @@ module _ (tokens : Tokens) where
   unfoldable pub body_form : Rule Stmt → Rule Stmt
   body_form inside = do x ← body tokens inside; pure (stmt-of.Body x)
 
-  -- A class stands in the body of a function, and not in that of a block. That is asked behind the form, as each side rule is,
-  -- so that the form is too deep where a part of it is.
+  -- A class stands in the body of a function, and not in that of a block. That is asked behind the form, as the side rules on
+  -- whole forms are, so that the form is too deep where a part of it is.
   unfoldable pub class_form : ℕ → Rule Member → Within → Rule Stmt
   class_form level inside within = do
     x ← class tokens level inside

@@ -62,7 +62,7 @@ some_taken : (n c : ℕ) (text : Characters) → 1 ≤ n → 1 ≤ length (take 
 some_taken zero c text h = absurd (omega (arith, h))
 some_taken (suc n) c text h = omega arith
 
-decimal_digit : (c : ℕ) → is_ascii_digit c ≡ true → is_digit_in 10 c ≡ true
+pub decimal_digit : (c : ℕ) → is_ascii_digit c ≡ true → is_digit_in 10 c ≡ true
 decimal_digit c h = grind (arith, nat_tests)
 
 pub some_integer : (c : ℕ) (text : Characters) → is_ascii_digit c ≡ true → 0 < (integer_at (c ∷ text)).length

@@ -2,6 +2,7 @@ pub mod AsciiFronts
 pub mod Beginnings
 pub mod CharacterFronts
 pub mod Composed
+pub mod Continuing
 pub mod Cut
 pub mod CutLaws
 pub mod FewTokens
@@ -13,13 +14,16 @@ pub mod Integers
 pub mod KnownNames
 pub mod Lines
 pub mod Literals
+pub mod LoneMarks
 pub mod MarkFronts
 pub mod Munch
 pub mod NumberFronts
 pub mod OpenStrings
+pub mod Passing
 pub mod Runs
 pub mod Search
 pub mod ShortMarks
+pub mod ShortNumbers
 pub mod SkippedForms
 pub mod Sources
 pub mod StringFronts

@@ -1,13 +1,15 @@
 -- Escapes, characters and strings.
-use Rattle.std.proofs.Common.{◌≡◌, ◌≢◌, ℕ, zero, suc, ◌+◌, ◌≤◌, Bool, true, false, eqb, [], ◌∷◌, ◌++◌, length, drop, chars, codes, Option, Some, None, Result, Ok, Err, refl, sym, ap, ◌∙◌, arith, true≢false, append_assoc}
+use Rattle.std.proofs.Common.{◌≡◌, ◌≢◌, ℕ, zero, suc, ◌+◌, ◌≤◌, Bool, true, false, not, ◌&&◌, cond, eqb, [], ◌∷◌, ◌++◌, length, take, drop, chars, encode_utf8_all, codes, Option, Some, None, Result, Ok, Err, refl, sym, ap, ◌∙◌, arith, true≢false, append_assoc}
 use Rattle.std.proofs.lemmas.List.{drop-drop, length-drop}
+use Rattle.std.proofs.lemmas.Bool.{and_parts}
 use Rattle.std.proofs.lemmas.Bool.Decides.{Decides-eqb}
+use Rattle.std.specs.List.{prefix_len}
 use Rattle.std.specs.Option.{IfSome}
 use Rattle.std.specs.Prelude.{encode_utf8}
 use Rattle.cxx_base.specs.Texts.{Text}
 use Rattle.cxx_base.specs.declared.place.Place.{Place}
 use Rattle.cxx_tokens.specs.Characters.{Characters, begins_with, backslash, double_quote, line_feed}
-use Rattle.cxx_tokens.specs.Cuts.{IsCut}
+use Rattle.cxx_tokens.specs.Cuts.{IsCut, is_plain_in_string}
 use Rattle.cxx_tokens.specs.Literals.{Escape, Quoted, behind_one, escape_at, string_from}
 use Rattle.cxx_tokens.specs.declared.escape.Escape.{Escape as KeptEscape}
 use Rattle.cxx_tokens.specs.Faults.{Fault}
@@ -96,6 +98,46 @@ pub other_read : (place : Place) (c : ℕ) (text : Characters) → c ≢ double_
     → string_from 0 place (c ∷ text) ≡ put_before 1 (encode_utf8 c) (string_from 0 place text)
 other_read place c text no_quote no_line_feed no_backslash =
     rw (differs c double_quote no_quote, differs c line_feed no_line_feed, differs c backslash no_backslash) (one_before (encode_utf8 c) (string_from 0 place text))
+
+apart : (c d : ℕ) → not (eqb c d) ≡ true → c ≢ d
+apart c d h = λ e. true≢false (sym h ∙ ap not ((Decides-eqb c d).1 e))
+
+-- characters that stand for themselves
+plain_on : (n : ℕ) (place : Place) (text : Characters) → n ≤ prefix_len is_plain_in_string text
+    → string_from 0 place text ≡ put_before n (encode_utf8_all (take n text)) (string_from 0 place (drop n text))
+plain_on zero place text h = sym (none_before (string_from 0 place text))
+plain_on (suc n) place [] h = absurd (omega (arith, h))
+plain_on (suc n) place (c ∷ text) h = by (is_plain_in_string c) refl h (λ g. plain_on n place text g)
+  where
+    by : (b : Bool) → is_plain_in_string c ≡ b → suc n ≤ cond b (1 + prefix_len is_plain_in_string text) 0
+        → (n ≤ prefix_len is_plain_in_string text → string_from 0 place text ≡ put_before n (encode_utf8_all (take n text)) (string_from 0 place (drop n text)))
+        → string_from 0 place (c ∷ text) ≡ put_before (suc n) (encode_utf8 c ++ encode_utf8_all (take n text)) (string_from 0 place (drop n text))
+    by false e h go = absurd (omega (arith, h))
+    by true e h go =
+        let q = and_parts (not (eqb c double_quote)) (not (eqb c backslash) && not (eqb c line_feed)) e in
+        let b = and_parts (not (eqb c backslash)) (not (eqb c line_feed)) q.1 in
+        let rest = string_from 0 place (drop n text) in
+        let one : 1 + n ≡ suc n = omega arith in
+        other_read place c text (apart c double_quote q.0) (apart c line_feed b.1) (apart c backslash b.0)
+        ∙ ap (put_before 1 (encode_utf8 c)) (go (omega (arith, h)))
+        ∙ before_before 1 n (encode_utf8 c) (encode_utf8_all (take n text)) rest
+        ∙ ap (λ k. put_before k (encode_utf8 c ++ encode_utf8_all (take n text)) rest) one
+
+pub plain_read : (k : ℕ) (place : Place) (c : ℕ) (text after : Characters) → text ≡ c ∷ after → c ≢ double_quote → c ≢ line_feed → c ≢ backslash
+    → k ≤ prefix_len is_plain_in_string after
+    → string_from 0 place text ≡ put_before (1 + k) (encode_utf8_all (take (1 + k) text)) (string_from 0 place (drop k after))
+plain_read k place c text after here no_quote no_line_feed no_backslash most =
+    let plain : is_plain_in_string c ≡ true = rw (differs c double_quote no_quote, differs c line_feed no_line_feed, differs c backslash no_backslash) refl in
+    let long : prefix_len is_plain_in_string (c ∷ after) ≡ 1 + prefix_len is_plain_in_string after = ap (λ b. cond b (1 + prefix_len is_plain_in_string after) 0) plain in
+    let one : suc k ≡ 1 + k = omega arith in
+    ap (string_from 0 place) here ∙ plain_on (suc k) place (c ∷ after) (omega (arith, long, most))
+    ∙ ap (λ i. put_before i (encode_utf8_all (take i (c ∷ after))) (string_from 0 place (drop k after))) one
+    ∙ ap (λ t. put_before (1 + k) (encode_utf8_all (take (1 + k) t)) (string_from 0 place (drop k after))) (sym here)
+
+pub drop_one_and : (k : ℕ) (c : ℕ) (text after : Characters) → text ≡ c ∷ after → drop k after ≡ drop (1 + k) text
+drop_one_and k c text after here =
+    let one : suc k ≡ 1 + k = omega arith in
+    ap (drop (suc k)) (sym here) ∙ ap (λ i. drop i text) one
 
 -- a backslash and its escape
 pub escape_read : (place : Place) (c : ℕ) (text : Characters) (escape : Escape) → c ≡ backslash → Some escape ≡ escape_at text → escape.length ≤ length text

@@ -51,7 +51,7 @@ no_word_begins c h =
     by true h = sym h
     by false h = refl
 
-digit_begins_no_word : (c : ℕ) → is_ascii_digit c ≡ true → begins_identifier c ≡ false
+pub digit_begins_no_word : (c : ℕ) → is_ascii_digit c ≡ true → begins_identifier c ≡ false
 digit_begins_no_word c digit =
     no_word_begins c (by (is_ascii_digit c) digit (below_passes 58 (λ c. not (is_ascii_digit c) || begins_no_word c) refl c (grind (arith, nat_tests))))
   where

@@ -10,12 +10,15 @@ use Rattle.std.specs.Char.{is_ascii}
 use Rattle.std.specs.List.{prefix_len, list_all}
 use Rattle.std.specs.Str.{IsUtf8, is_utf8}
 use Rattle.cxx_base.specs.Texts.{Text, with_text}
-use Rattle.cxx_tokens.specs.Characters.{Characters}
+use Rattle.cxx_tokens.specs.Characters.{Characters, is_before_marks}
 use Rattle.cxx_tokens.specs.Gaps.{is_empty}
 use Rattle.cxx_tokens.specs.Lex.{before_zero, is_name, is_short_and_composed, names_with_string}
 use Rattle.cxx_tokens.proofs.AsciiFronts.{all_ascii}
 use Rattle.ucd_normal.specs.declared.forms.Form.TheVariants.{Nfc}
-use Rattle.unicode_normalization.proofs.FormsLemmas.{normalize-ascii}
+use Rattle.unicode_normalization.proofs.FormsLemmas.{class-latin, normalize-ascii, normalize-passes, passes, quick_check-below}
+use Rattle.unicode_normalization.proofs.OrderLemmas.{is_ordered-nil, is_ordered-starter}
+use Rattle.unicode_normalization.proofs.TableFacts.{is_yes}
+use Rattle.unicode_normalization.specs.Order.{is_ordered}
 use Rattle.unicode_normalization.specs.Forms.{IsInForm, is_in_form}
 
 -- nothing is behind a run exactly where all belong to it
@@ -64,6 +67,22 @@ ascii_composed word utf8 h long = short_and_composed word utf8 h true ((λ _. co
   where
     composed : IsInForm Nfc (chars word)
     composed = normalize-ascii Nfc (chars word) (all_small (chars word) (all_ascii word utf8 long))
+
+-- one whose characters stand before the combining marks is in form C
+before_marks : (cs : Characters) → is_before_marks cs ≡ true → (list_all (passes Nfc) cs ≡ true) × (is_ordered cs ≡ true)
+before_marks [] h = (refl, is_ordered-nil)
+before_marks (c ∷ cs) h =
+    let parts = and_parts (ltb c 0x300) (is_before_marks cs) h in
+    let first : c < 0x300 = ltb-true c 0x300 parts.0 in
+    let rest = before_marks cs parts.1 in
+    let starter = class-latin c first in
+    (and_from (passes Nfc c) (list_all (passes Nfc) cs) (ap is_yes (quick_check-below Nfc c first)) rest.0, is_ordered-starter c cs (omega (arith, starter)) rest.1)
+
+pub before_marks_composed : (word : Text) → IsUtf8 word → length word ≤ 255 → is_before_marks (chars word) ≡ true → true ≡ is_short_and_composed (chars word)
+before_marks_composed word utf8 h all = short_and_composed word utf8 h true ((λ _. composed), (λ _. refl))
+  where
+    composed : IsInForm Nfc (chars word)
+    composed = let parts = before_marks (chars word) all in normalize-passes Nfc (chars word) parts.0 parts.1
 
 -- ---- names of strings
 

@@ -27,7 +27,7 @@ past_end [] n d h = refl
 past_end (x ∷ xs) zero d h = absurd (omega (arith, h))
 past_end (x ∷ xs) (suc n) d h = past_end xs n d (omega (arith, h))
 
-is_ascii_where : (xs : List ℕ) (c n : ℕ) → length xs ≡ 128 → n ≡ get_or xs c 49 → n < 49 → c < 128
+pub is_ascii_where : (xs : List ℕ) (c n : ℕ) → length xs ≡ 128 → n ≡ get_or xs c 49 → n < 49 → c < 128
 is_ascii_where xs c n long e less = by (ltb c 128) refl
   where
     by : (b : Bool) → ltb c 128 ≡ b → c < 128
@@ -37,7 +37,7 @@ is_ascii_where xs c n long e less = by (ltb c 128) refl
         let none = past_end xs c 49 far in
         absurd (omega (arith, none, e, less))
 
-implied : (a b : Bool) → a ≡ true → (not a || b) ≡ true → b ≡ true
+pub implied : (a b : Bool) → a ≡ true → (not a || b) ≡ true → b ≡ true
 implied true b e h = h
 implied false b e h = absurd (true≢false (sym e))
 
@@ -76,7 +76,7 @@ lone_passes : (c : ℕ) → c < 128 → is_lone (get_or ALONE c 49) c ≡ true
 unfolding punctuators
 lone_passes c h = below_passes 128 (λ c. is_lone (get_or ALONE c 49) c) refl c h
 
-not_true : (b : Bool) → not b ≡ true → b ≡ false
+pub not_true : (b : Bool) → not b ≡ true → b ≡ false
 not_true true h = absurd (true≢false (sym h))
 not_true false h = refl
 

@@ -1,15 +1,17 @@
 -- One turn of the lexer.
-use Rattle.std.proofs.Common.{◌≡◌, ◌==◌, ℕ, zero, suc, ◌+◌, ◌-◌, ◌<◌, ◌≤◌, not, List, [], ◌∷◌, ◌++◌, length, take, drop, Option, Some, None, Result, Ok, Err, refl, sym, ap, ◌∙◌, arith}
+use Rattle.std.proofs.Common.{◌≡◌, ◌≢◌, false, eqb, ℕ, zero, suc, ◌+◌, ◌-◌, ◌<◌, ◌≤◌, List, [], ◌∷◌, ◌++◌, length, take, drop, Some, None, Result, Ok, Err, true, true≢false, refl, sym, ap, ◌∙◌, arith}
+use Rattle.std.proofs.lemmas.Bool.{ne_eqb}
+use Rattle.std.proofs.lemmas.Bool.Decides.{nat_tests}
 use Rattle.std.proofs.lemmas.List.{append_assoc, append-nil, length-append}
+use Rattle.std.specs.Char.{is_ascii_digit}
 use Rattle.cxx_base.specs.Texts.{Text, with_texts}
 use Rattle.cxx_base.specs.declared.place.Place.{Place}
-use Rattle.cxx_tokens.specs.Characters.{Characters, after, after_all}
+use Rattle.cxx_tokens.specs.Characters.{Characters, after, after_all, is_blank, is_space, number_sign, slash}
 use Rattle.cxx_tokens.specs.Faults.{Fault}
 use Rattle.cxx_tokens.specs.Faults as spec
-use Rattle.cxx_tokens.specs.Gaps.{gap_at}
 use Rattle.cxx_tokens.specs.Gives.{Fails}
 use Rattle.cxx_tokens.specs.Lex.{Found, Lexed, behind, lex_from, members, token_at, token_from}
-use Rattle.cxx_tokens.specs.Turns.{lexed_on}
+use Rattle.cxx_tokens.specs.Turns.{lexed_on, next_gap}
 use Rattle.cxx_tokens.specs.declared.fault.LexFault.{LexFault}
 use Rattle.cxx_tokens.specs.declared.fault.LexFault.TheVariants.{L1, L2, L3, L4, L5, Memory}
 use Rattle.cxx_tokens.specs.declared.lexing.Position.{Position}
@@ -33,10 +35,6 @@ behind-behind : (a b : List Token) (rest : Result Lexed Fault) → behind a (beh
 behind-behind a b (Ok found) = ap (λ tokens. Ok (record found { tokens = tokens })) (sym (append_assoc a b found.tokens))
 behind-behind a b (Err fault) = refl
 
--- what the text is cut into next
-abbrev pub next_gap : Position → Characters → Result (Option ℕ) Fault
-next_gap at text = gap_at at.place (not (at.last == at.place.line)) text
-
 -- a gap
 pub gap_turn : (tokens : List Token) (at : Position) (names : List Text) (text : Characters) (n : ℕ) → next_gap at text ≡ Ok (Some n) → 0 < n → n ≤ length text
     → lexed_on tokens at names text ≡ lexed_on tokens (record { place = after_all at.place (take n text); last = at.last }) names (drop n text)
@@ -44,6 +42,22 @@ gap_turn tokens at names [] n h some within = absurd (omega (arith, some, within
 gap_turn tokens at names (c ∷ text) n h some within =
     let first : lex_from 0 at.place at.last (length tokens) names (c ∷ text) ≡ lex_from (n - 1) (after at.place c) at.last (length tokens) names text = rw h refl in
     ap (behind tokens) (first ∙ first_is_gone at.place at.last (length tokens) names c text n some within)
+
+-- a white-space character
+pub space_turn : (at : Position) (text : Characters) (c : ℕ) (rest : Characters) → text ≡ c ∷ rest → is_space c ≡ true → (tokens : List Token) (names : List Text)
+    → lexed_on tokens at names text ≡ lexed_on tokens (record { place = after at.place c; last = at.last }) names rest
+space_turn at text c rest here space tokens names =
+    let first : lex_from 0 at.place at.last (length tokens) names (c ∷ rest) ≡ lex_from 0 (after at.place c) at.last (length tokens) names rest = rw space refl in
+    ap (lexed_on tokens at names) here ∙ ap (behind tokens) first
+
+-- one within a line, behind which the next column stands
+pub blank_turn : (at : Position) (text : Characters) (c : ℕ) (rest : Characters) → text ≡ c ∷ rest → is_blank c ≡ true → c ≢ 10 → (tokens : List Token) (names : List Text)
+    → lexed_on tokens at names text ≡ lexed_on tokens (record { place = record { line = at.place.line; column = at.place.column + 1 }; last = at.last }) names rest
+blank_turn at text c rest here blank other tokens names =
+    let no : eqb c 10 ≡ false = ne_eqb c 10 other in
+    let space : is_space c ≡ true = rw blank refl in
+    let next : after at.place c ≡ record { line = at.place.line; column = at.place.column + 1 } = rw no refl in
+    space_turn at text c rest here space tokens names ∙ ap (λ place. lexed_on tokens (record { place = place; last = at.last }) names rest) next
 
 -- a token
 pub token_turn : (tokens : List Token) (at : Position) (names : List Text) (text : Characters) (found : Found) → next_gap at text ≡ Ok None
@@ -93,3 +107,15 @@ no_more tokens at names text h =
 pub behind_none : (rest : Result Lexed Fault) → behind [] rest ≡ rest
 behind_none (Ok found) = refl
 behind_none (Err fault) = refl
+
+-- where a character begins neither white space nor a comment nor a skipped line, no gap begins
+pub no_gap : (at : Position) (text : Characters) (c : ℕ) (rest : Characters) → text ≡ c ∷ rest → 32 < c → c ≢ 35 → c ≢ 47 → next_gap at text ≡ Ok None
+no_gap at text c rest here far line comment =
+    let space : is_space c ≡ false = grind (arith, nat_tests) in
+    let no_line : eqb c number_sign ≡ false = ne_eqb c number_sign line in
+    let no_comment : eqb c slash ≡ false = ne_eqb c slash comment in
+    rw (here, space, no_comment, no_line) refl
+
+pub digit_no_gap : (at : Position) (text : Characters) (c : ℕ) (rest : Characters) → text ≡ c ∷ rest → is_ascii_digit c ≡ true → next_gap at text ≡ Ok None
+digit_no_gap at text c rest here digit =
+    no_gap at text c rest here (grind (arith, nat_tests)) (λ e. true≢false (sym digit ∙ ap is_ascii_digit e)) (λ e. true≢false (sym digit ∙ ap is_ascii_digit e))

@@ -1,8 +1,8 @@
 -- Characters, and the classes of them by which a source text is cut. A number is a character's code point.
-use Rattle.std.specs.Prelude.{ℕ, ◌+◌, ◌*◌, Bool, false, ◌||◌, not, ◌==◌, if◌then◌else◌, List, [], ◌∷◌, length, take, fold, chars}
+use Rattle.std.specs.Prelude.{ℕ, ◌+◌, ◌*◌, Bool, false, ◌||◌, not, ◌==◌, nat_lt, if◌then◌else◌, List, [], ◌∷◌, length, take, fold, chars}
 use Rattle.std.specs.Char.{digit_value, is_digit}
 use Rattle.std.specs.Int.{is_in_range}
-use Rattle.std.specs.List.{filter}
+use Rattle.std.specs.List.{filter, list_all}
 use Rattle.std.specs.Str.{bytes_eq}
 use Rattle.std.specs.Str.Lossy.{utf8_valid_len}
 use Rattle.cxx_base.specs.Texts.{Text}
@@ -84,6 +84,10 @@ begins_identifier c = is_xid_start c || c == low_line
 
 abbrev pub continues_identifier : ℕ → Bool
 continues_identifier c = is_xid_continue c
+
+-- all before the combining marks, which begin at U+0300
+abbrev pub is_before_marks : Characters → Bool
+is_before_marks text = list_all (λ c. nat_lt c 0x300) text
 
 abbrev pub is_digit_in : ℕ → ℕ → Bool
 is_digit_in base c = is_digit c base

@@ -1,16 +1,16 @@
 -- What the functions that scan a text show of it, and the classes of characters that they run over.
-use Rattle.std.specs.Prelude.{◌≡◌, ◌≤◌, ◌+◌, ◌-◌, ℕ, Bool, ◌&&◌, nat_lt, min, ◌^◌, true, length, take, drop, chars, Option, None, Some, option_map, Result, Ok, Err}
+use Rattle.std.specs.Prelude.{◌≡◌, ◌≤◌, ◌+◌, ◌-◌, ℕ, Bool, ◌&&◌, ◌==◌, not, nat_lt, min, ◌^◌, true, length, take, drop, chars, Option, None, Some, option_map, Result, Ok, Err}
 use Rattle.std.specs.Char.{is_ascii_digit}
 use Rattle.std.specs.List.{list_all}
 use Rattle.cxx_base.specs.Texts.{Text}
 use Rattle.cxx_base.specs.declared.place.Place.{Place}
 use Rattle.cxx_tokens.specs.Faults.{Fault, L4}
-use Rattle.cxx_tokens.specs.Characters.{is_blank, is_in_line, continues_identifier, is_digit_in}
+use Rattle.cxx_tokens.specs.Characters.{is_blank, is_in_line, continues_identifier, is_digit_in, double_quote, backslash, line_feed}
 use Rattle.cxx_tokens.specs.Gaps.{is_no_quote}
 use Rattle.cxx_tokens.specs.Punctuators.{Punctuator}
 use Rattle.cxx_tokens.specs.declared.punctuator.Punctuator.{Punctuator as KeptPunctuator}
 use Rattle.cxx_tokens.specs.declared.run.Class.{Class}
-use Rattle.cxx_tokens.specs.declared.run.Class.TheVariants.{Continuing, Blank, InLine as NoLineFeed, NoQuote, Digit, Octal, Hexadecimal}
+use Rattle.cxx_tokens.specs.declared.run.Class.TheVariants.{Continuing, Blank, InLine as NoLineFeed, NoQuote, Plain, Digit, Octal, Hexadecimal}
 use Rattle.cxx_tokens.specs.Literals.{Suffix, Integer, Escape}
 use Rattle.cxx_tokens.specs.declared.escape.Escape.{Escape as KeptEscape}
 use Rattle.cxx_tokens.specs.declared.gap.Gap.{Gap}
@@ -61,11 +61,16 @@ IfPassed P (InLine cut) = P cut
 IfPassed P (Block cut) = P cut
 IfPassed P Unended = Unit {0}
 
+-- what stands for itself in a string
+abbrev pub is_plain_in_string : ℕ → Bool
+is_plain_in_string c = not (c == double_quote) && (not (c == backslash) && not (c == line_feed))
+
 abbrev pub class_test : Class → ℕ → Bool
 class_test Continuing = continues_identifier
 class_test Blank = is_blank
 class_test NoLineFeed = is_in_line
 class_test NoQuote = is_no_quote
+class_test Plain = is_plain_in_string
 class_test Digit = is_ascii_digit
 class_test Octal = is_digit_in 8
 class_test Hexadecimal = is_digit_in 16

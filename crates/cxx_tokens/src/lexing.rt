@@ -1,17 +1,19 @@
 //! From bytes to tokens.
 
-ghost use Rattle.std.specs.Prelude.{◌≡◌, ℕ, true, false, ◌&&◌, List, ◌+◌, ◌≤◌, ◌<◌, ◌^◌, min, chars, length, take, IfOk, IfErr, OnOk, MatchOption};
+ghost use Rattle.std.specs.Prelude.{◌≡◌, ◌≢◌, ℕ, true, false, ◌&&◌, List, [], ◌∷◌, ◌++◌, ◌+◌, ◌≤◌, ◌<◌, ◌^◌, nat_lt, None, Some, Ok, min, chars, length, take, IfOk, IfErr, IfSome, IfNone, OnOk, IsTrue, IsFalse, MatchOption};
+ghost use Rattle.std.specs.Char.{is_ascii_digit};
 ghost use Rattle.std.specs.Str.{IsUtf8, is_utf8};
 ghost use Rattle.std.specs.Prelude.{All};
 ghost use Rattle.cxx_base.specs.declared.limits.TheConstants.{MAX_SOURCE};
-ghost use Rattle.cxx_base.specs.Texts.{Text, has_text, with_texts};
+ghost use Rattle.cxx_base.specs.Texts.{Text, has_text, number_of, with_texts};
 ghost use Rattle.cxx_tokens.specs.Characters as characters;
-ghost use Rattle.cxx_tokens.specs.Cuts.{IsCut, IsCutBehindOne};
+ghost use Rattle.cxx_tokens.specs.Characters.{begins_identifier};
+ghost use Rattle.cxx_tokens.specs.Cuts.{IsCut, IsCutBehindOne, seen_punctuator};
 ghost use Rattle.cxx_tokens.specs.Gives.{GivesCut, GivesToken, GivesTokens, Keeps};
 ghost use Rattle.cxx_tokens.specs.Lex as spec;
 ghost use Rattle.cxx_tokens.specs.Literals as literals;
 ghost use Rattle.cxx_tokens.specs.Punctuators as punctuators;
-ghost use Rattle.cxx_tokens.specs.Turns.{Goes, lexed_on};
+ghost use Rattle.cxx_tokens.specs.Turns.{Goes, IsMark, Passes, lexed_on, next_gap};
 ghost use Rattle.cxx_tokens.specs.Usable.{IsKnown, Rise};
 ghost use Rattle.cxx_tokens.specs.declared.token.Token.{Token};
 ghost use Rattle.cxx_tokens.specs.declared.token.TokenKind.TheVariants as kind;
@@ -21,15 +23,16 @@ use crate::escape::character_at;
 use crate::fault::LexFault;
 use crate::gap::{Gap, gap_at};
 use crate::integer::{Integer, integer_at};
-use crate::punctuator::punctuator_at;
+use crate::punctuator::{Punctuator, lone_punctuator, punctuator_at, short_punctuator_at};
 use crate::quoted::string_at;
 use crate::recent::Recent;
-use crate::run::{Class, past, run};
-use crate::text::{Cut, after, end_of, front, split_first, without_byte_order_mark};
+use crate::run::{Class, past, run, short_run};
+use crate::short_number::short_number_at;
+use crate::text::{Cut, after, end_of, front, split_ascii, split_first, without_byte_order_mark};
 use crate::token::{Token, TokenKind, Tokens};
-use crate::word::reserved;
+use crate::word::{key, reserved, reserved_by_key};
 use containers::{Boxed, Items};
-use cxx_base::{Bytes, MAX_IDENTIFIER, Names, Place, Span};
+use cxx_base::{Bytes, MAX_IDENTIFIER, Name, Names, Place, Span};
 use int_kinds::literal_kind;
 use simdutf8::compat::from_utf8;
 use std::alloc::{AllocError, Global};
@@ -66,7 +69,7 @@ fn kind_of_word(names: &mut Names, recent: &mut Recent, text: &str) -> Result<To
 }
 
 // The first character, and all behind it that continue an identifier.
-#[inline]
+#[inline(always)]
 fn word(text: &str) -> Cut<'_>
     ensures length { result.length ≡ spec.word_len (chars text.now) }
     ensures cut { IsCut text.now result }
@@ -86,9 +89,31 @@ fn word(text: &str) -> Cut<'_>
     }
 }
 
+// Whether a character stands before the combining marks.
+#[inline]
+fn precedes_marks(c: char) -> bool
+    ensures { result ≡ nat_lt c 0x300 }
+{
+    c < '\u{300}'
+}
+
+// Whether all characters stand before the combining marks, which begin at U+0300. Such a text is in normalization form C.
+fn is_before_marks(text: &str) -> bool
+    ensures { result ≡ characters.is_before_marks (chars text.now) }
+{
+    let mut rest = text;
+    while let Some((c, after)) = split_first(rest) {
+        if !precedes_marks(c) {
+            return false;
+        }
+        rest = after;
+    }
+    true
+}
+
 // Whether a word of so many characters is short enough, and in normalization form C, as all ASCII is: that has a byte for each
 // character.
-#[inline]
+#[inline(always)]
 fn is_short_and_composed(alloc: Global, word: &str, count: usize) -> Result<bool, AllocError>
     requires { count ≡ length (chars word.now) }
     ensures { IfOk result (λ fit. fit ≡ spec.is_short_and_composed (chars word.now)) }
@@ -97,6 +122,9 @@ fn is_short_and_composed(alloc: Global, word: &str, count: usize) -> Result<bool
         return Ok(false);
     }
     if word.len() == count {
+        return Ok(true);
+    }
+    if is_before_marks(word) {
         return Ok(true);
     }
     is_nfc(alloc, word)
@@ -372,26 +400,62 @@ fn token_from(kind: TokenKind, place: Place, number: u32) -> Token
     Token { kind, span }
 }
 
-// Passes the gap or the token at the front of a text, and answers what follows it.
+// Puts the token at the front of a text at the end, and answers what follows it. No gap begins there. Without memory nothing
+// changes.
 #[inline(always)]
-fn turn<'a>(
+fn put<'a>(
+    list: &mut Vec<Token>,
+    at: &mut Position,
+    kind: TokenKind,
+    text: &str,
+    cut: Cut<'a>,
+) -> Option<&'a str>
+    requires some { 0 < cut.length }
+    requires cut { IsCut text.now cut }
+    requires short { length list.old.items < 2 ^ 31 }
+    requires line { at.old.place.line + length (chars text.now) < 2 ^ 32 }
+    requires column { at.old.place.column + length (chars text.now) < 2 ^ 32 }
+    ensures goes { (before : List Text) (after : List Text) → next_gap at.old (chars text.now) ≡ Ok None
+        → spec.token_at at.old.place before (chars text.now) ≡ Ok (record { kind = kind; length = cut.entry.length; names = after })
+        → Passes result (lexed_on list.old.items at.old before (chars text.now)) (lexed_on list.new.items at.new after) }
+    ensures stays { IfNone result ((list.new.items ≡ list.old.items) × (at.new ≡ at.old)) }
+    ensures taken { IfSome result (λ rest. length (chars rest.now) < length (chars text.now)) }
+    ensures longer { length list.new.items ≤ length list.old.items + 1 }
+    ensures line { IfSome result (λ rest. at.new.place.line + length (chars rest.now) ≤ at.old.place.line + length (chars text.now)) }
+    ensures column { IfSome result (λ rest. at.new.place.column + length (chars rest.now) ≤ at.old.place.column + length (chars text.now)) }
+{
+    let token = token_from(kind, at.place, list.len() as u32);
+    match list.push(token) {
+        Ok(()) => {}
+        Err(_) => return None,
+    }
+    *at = Position {
+        place: in_line(at.place, cut.length),
+        last: at.place.line,
+    };
+    Some(cut.rest)
+}
+
+// Passes the gap or the token at the front of a text, and answers what follows it, whatever stands there.
+#[inline(never)]
+fn any_turn<'a>(
     alloc: Global,
     names: &mut Names,
     recent: &mut Recent,
-    list: &mut Items<Token>,
+    list: &mut Vec<Token>,
     at: &mut Position,
     text: &'a str,
 ) -> Result<&'a str, LexFault>
     requires some { 0 < length text.now }
     requires room { length names.old < 2 ^ 24 }
-    requires short { length list.old < 2 ^ 31 }
+    requires short { length list.old.items < 2 ^ 31 }
     requires line { at.old.place.line + length (chars text.now) < 2 ^ 32 }
     requires column { at.old.place.column + length (chars text.now) < 2 ^ 32 }
-    ensures goes { Goes result (lexed_on list.old at.old names.old (chars text.now)) (lexed_on list.new at.new names.new) }
+    ensures goes { Goes result (lexed_on list.old.items at.old names.old (chars text.now)) (lexed_on list.new.items at.new names.new) }
     ensures taken { IfOk result (λ rest. length (chars rest.now) < length (chars text.now)) }
     ensures kept { Keeps names.old names.new }
     ensures few { length names.new ≤ length names.old + 1 }
-    ensures longer { length list.new ≤ length list.old + 1 }
+    ensures longer { length list.new.items ≤ length list.old.items + 1 }
     ensures line { IfOk result (λ rest. at.new.place.line + length (chars rest.now) ≤ at.old.place.line + length (chars text.now)) }
     ensures column { IfOk result (λ rest. at.new.place.column + length (chars rest.now) ≤ at.old.place.column + length (chars text.now)) }
 {
@@ -407,44 +471,385 @@ fn turn<'a>(
         }
         Gap::Absent => match token_at(alloc, names, recent, at.place, text) {
             Err(fault) => Err(fault),
-            Ok(found) => {
-                list.push(token_from(found.kind, at.place, list.len() as u32))?;
-                *at = Position {
-                    place: in_line(at.place, found.cut.length),
-                    last: at.place.line,
-                };
-                Ok(found.cut.rest)
-            }
+            Ok(found) => match put(list, at, found.kind, text, found.cut) {
+                Some(rest) => Ok(rest),
+                None => Err(LexFault::Memory),
+            },
         },
     }
 }
 
-// Passes the white space at the front of a text, each character a gap, without the tries for other gaps and tokens.
+// Whether a word has a byte for each of its characters, so that it is ASCII, and is short enough.
 #[inline(always)]
-fn past_space<'a>(at: &mut Position, text: &'a str) -> &'a str
+fn is_short_ascii(word: &str, count: usize) -> bool
+    requires { count ≡ length (chars word.now) }
+    ensures { IsTrue result → spec.is_short_and_composed (chars word.now) ≡ true }
+{
+    if word.len() > MAX_IDENTIFIER {
+        return false;
+    }
+    if word.len() == count {
+        return true;
+    }
+    false
+}
+
+// The word of a character and what is behind it, where that is ASCII.
+#[inline(always)]
+fn ascii_word<'a>(c: char, text: &str, behind: &'a str) -> Option<Cut<'a>>
+    requires { chars text.now ≡ c ∷ chars behind.now }
+    ensures length { IfSome result (λ cut. cut.length ≡ spec.word_len (chars text.now)) }
+    ensures cut { IfSome result (λ cut. IsCut text.now cut) }
+{
+    let _c = c;
+    let _text = text;
+    match short_run(Class::Continuing, behind) {
+        Some(more) => Some(Cut {
+            length: 1 + more.length,
+            rest: more.rest,
+        }),
+        None => None,
+    }
+}
+
+// Passes a word of the list, which has this number.
+#[inline(always)]
+fn put_listed<'a>(
+    names: &Names,
+    list: &mut Vec<Token>,
+    at: &mut Position,
+    c: char,
+    text: &str,
+    behind: &str,
+    cut: Cut<'a>,
+    spelled: &str,
+    number: u32,
+) -> Option<&'a str>
+    requires here { chars text.now ≡ c ∷ chars behind.now }
+    requires word { begins_identifier c ≡ true }
+    requires no_gap { 64 < c }
+    requires length { cut.length ≡ spec.word_len (chars text.now) }
+    requires cut { IsCut text.now cut }
+    requires spelled { chars spelled.now ≡ take cut.length (chars text.now) }
+    requires fit { spec.is_short_and_composed (chars spelled.now) ≡ true }
+    requires told { Some number ≡ spec.reserved spelled.now }
+    requires short { length list.old.items < 2 ^ 31 }
     requires line { at.old.place.line + length (chars text.now) < 2 ^ 32 }
     requires column { at.old.place.column + length (chars text.now) < 2 ^ 32 }
-    ensures goes { (list : List Token) (names : List Text) → lexed_on list at.old names (chars text.now) ≡ lexed_on list at.new names (chars result.now) }
-    ensures left { length (chars result.now) ≤ length (chars text.now) }
-    ensures line { at.new.place.line + length (chars result.now) ≤ at.old.place.line + length (chars text.now) }
-    ensures column { at.new.place.column + length (chars result.now) ≤ at.old.place.column + length (chars text.now) }
+    ensures goes { Passes result (lexed_on list.old.items at.old names.now (chars text.now)) (lexed_on list.new.items at.new names.now) }
+    ensures stays { IfNone result ((list.new.items ≡ list.old.items) × (at.new ≡ at.old)) }
+    ensures taken { IfSome result (λ rest. length (chars rest.now) < length (chars text.now)) }
+    ensures longer { length list.new.items ≤ length list.old.items + 1 }
+    ensures line { IfSome result (λ rest. at.new.place.line + length (chars rest.now) ≤ at.old.place.line + length (chars text.now)) }
+    ensures column { IfSome result (λ rest. at.new.place.column + length (chars rest.now) ≤ at.old.place.column + length (chars text.now)) }
 {
-    let mut line = at.place.line;
-    let mut column = at.place.column;
-    let mut rest = text;
-    while let Some((c, behind)) = split_first(rest) {
-        if c == '\n' {
-            line += 1;
-            column = 1;
-        } else if is_blank(c) {
-            column += 1;
-        } else {
-            break;
-        }
-        rest = behind;
+    let _names = names;
+    let _c = c;
+    let _behind = behind;
+    let _spelled = spelled;
+    put(list, at, TokenKind::Word(number), text, cut)
+}
+
+// Passes an identifier that is among the names, with this number.
+#[inline(always)]
+fn put_held<'a>(
+    names: &Names,
+    list: &mut Vec<Token>,
+    at: &mut Position,
+    c: char,
+    text: &str,
+    behind: &str,
+    cut: Cut<'a>,
+    spelled: &str,
+    number: u32,
+) -> Option<&'a str>
+    requires here { chars text.now ≡ c ∷ chars behind.now }
+    requires word { begins_identifier c ≡ true }
+    requires no_gap { 64 < c }
+    requires length { cut.length ≡ spec.word_len (chars text.now) }
+    requires cut { IsCut text.now cut }
+    requires spelled { chars spelled.now ≡ take cut.length (chars text.now) }
+    requires fit { spec.is_short_and_composed (chars spelled.now) ≡ true }
+    requires told { None ≡ spec.reserved spelled.now }
+    requires number { number ≡ number_of names.now spelled.now }
+    requires held { has_text names.now spelled.now ≡ true }
+    requires short { length list.old.items < 2 ^ 31 }
+    requires line { at.old.place.line + length (chars text.now) < 2 ^ 32 }
+    requires column { at.old.place.column + length (chars text.now) < 2 ^ 32 }
+    ensures goes { Passes result (lexed_on list.old.items at.old names.now (chars text.now)) (lexed_on list.new.items at.new names.now) }
+    ensures stays { IfNone result ((list.new.items ≡ list.old.items) × (at.new ≡ at.old)) }
+    ensures taken { IfSome result (λ rest. length (chars rest.now) < length (chars text.now)) }
+    ensures longer { length list.new.items ≤ length list.old.items + 1 }
+    ensures line { IfSome result (λ rest. at.new.place.line + length (chars rest.now) ≤ at.old.place.line + length (chars text.now)) }
+    ensures column { IfSome result (λ rest. at.new.place.column + length (chars rest.now) ≤ at.old.place.column + length (chars text.now)) }
+{
+    let _names = names;
+    let _c = c;
+    let _behind = behind;
+    let _spelled = spelled;
+    put(list, at, TokenKind::Identifier(Name(number)), text, cut)
+}
+
+// Passes a word that begins with an ASCII letter or `_`, where it is ASCII and one of the list, or was used before.
+#[inline(always)]
+fn word_pass<'a>(
+    names: &Names,
+    recent: &Recent,
+    list: &mut Vec<Token>,
+    at: &mut Position,
+    c: char,
+    text: &'a str,
+    behind: &'a str,
+) -> Option<&'a str>
+    requires here { chars text.now ≡ c ∷ chars behind.now }
+    requires word { begins_identifier c ≡ true }
+    requires no_gap { 64 < c }
+    requires short { length list.old.items < 2 ^ 31 }
+    requires line { at.old.place.line + length (chars text.now) < 2 ^ 32 }
+    requires column { at.old.place.column + length (chars text.now) < 2 ^ 32 }
+    ensures goes { Passes result (lexed_on list.old.items at.old names.now (chars text.now)) (lexed_on list.new.items at.new names.now) }
+    ensures stays { IfNone result ((list.new.items ≡ list.old.items) × (at.new ≡ at.old)) }
+    ensures taken { IfSome result (λ rest. length (chars rest.now) < length (chars text.now)) }
+    ensures longer { length list.new.items ≤ length list.old.items + 1 }
+    ensures line { IfSome result (λ rest. at.new.place.line + length (chars rest.now) ≤ at.old.place.line + length (chars text.now)) }
+    ensures column { IfSome result (λ rest. at.new.place.column + length (chars rest.now) ≤ at.old.place.column + length (chars text.now)) }
+{
+    let cut = ascii_word(c, text, behind)?;
+    let spelled = front(text, cut.length, cut.rest);
+    if !is_short_ascii(spelled, cut.length) {
+        return None;
     }
-    at.place = Place { line, column };
-    rest
+    let key = key(spelled.as_bytes());
+    match reserved_by_key(key, spelled.as_bytes()) {
+        Some(number) => put_listed(names, list, at, c, text, behind, cut, spelled, number),
+        None => match recent.find(names, key, spelled) {
+            Some(name) => put_held(names, list, at, c, text, behind, cut, spelled, name.0),
+            None => None,
+        },
+    }
+}
+
+// Passes a punctuator that is told without a search, and begins with no character with which anything else begins.
+#[inline(always)]
+fn mark_pass<'a>(
+    names: &Names,
+    list: &mut Vec<Token>,
+    at: &mut Position,
+    c: char,
+    text: &'a str,
+    behind: &str,
+) -> Option<&'a str>
+    requires here { chars text.now ≡ c ∷ chars behind.now }
+    requires mark { IsMark c }
+    requires short { length list.old.items < 2 ^ 31 }
+    requires line { at.old.place.line + length (chars text.now) < 2 ^ 32 }
+    requires column { at.old.place.column + length (chars text.now) < 2 ^ 32 }
+    ensures goes { Passes result (lexed_on list.old.items at.old names.now (chars text.now)) (lexed_on list.new.items at.new names.now) }
+    ensures stays { IfNone result ((list.new.items ≡ list.old.items) × (at.new ≡ at.old)) }
+    ensures taken { IfSome result (λ rest. length (chars rest.now) < length (chars text.now)) }
+    ensures longer { length list.new.items ≤ length list.old.items + 1 }
+    ensures line { IfSome result (λ rest. at.new.place.line + length (chars rest.now) ≤ at.old.place.line + length (chars text.now)) }
+    ensures column { IfSome result (λ rest. at.new.place.column + length (chars rest.now) ≤ at.old.place.column + length (chars text.now)) }
+{
+    match short_punctuator_at(text) {
+        Some(found) => put_mark(names, list, at, c, text, behind, found),
+        None => None,
+    }
+}
+
+// Passes this punctuator.
+#[inline(always)]
+fn put_mark<'a>(
+    names: &Names,
+    list: &mut Vec<Token>,
+    at: &mut Position,
+    c: char,
+    text: &str,
+    behind: &str,
+    found: Punctuator<'a>,
+) -> Option<&'a str>
+    requires here { chars text.now ≡ c ∷ chars behind.now }
+    requires mark { IsMark c }
+    requires found { Some (seen_punctuator found) ≡ punctuators.punctuator_at (chars text.now) }
+    requires some { 0 < found.cut.length }
+    requires cut { IsCut text.now found.cut }
+    requires short { length list.old.items < 2 ^ 31 }
+    requires line { at.old.place.line + length (chars text.now) < 2 ^ 32 }
+    requires column { at.old.place.column + length (chars text.now) < 2 ^ 32 }
+    ensures goes { Passes result (lexed_on list.old.items at.old names.now (chars text.now)) (lexed_on list.new.items at.new names.now) }
+    ensures stays { IfNone result ((list.new.items ≡ list.old.items) × (at.new ≡ at.old)) }
+    ensures taken { IfSome result (λ rest. length (chars rest.now) < length (chars text.now)) }
+    ensures longer { length list.new.items ≤ length list.old.items + 1 }
+    ensures line { IfSome result (λ rest. at.new.place.line + length (chars rest.now) ≤ at.old.place.line + length (chars text.now)) }
+    ensures column { IfSome result (λ rest. at.new.place.column + length (chars rest.now) ≤ at.old.place.column + length (chars text.now)) }
+{
+    let _names = names;
+    let _c = c;
+    let _behind = behind;
+    put(
+        list,
+        at,
+        TokenKind::Punctuator(found.number),
+        text,
+        found.cut,
+    )
+}
+
+// Passes a number that is a zero or a small decimal one.
+#[inline(always)]
+fn number_pass<'a>(
+    names: &Names,
+    list: &mut Vec<Token>,
+    at: &mut Position,
+    c: char,
+    text: &'a str,
+    behind: &str,
+) -> Option<&'a str>
+    requires here { chars text.now ≡ c ∷ chars behind.now }
+    requires digit { is_ascii_digit c ≡ true }
+    requires short { length list.old.items < 2 ^ 31 }
+    requires line { at.old.place.line + length (chars text.now) < 2 ^ 32 }
+    requires column { at.old.place.column + length (chars text.now) < 2 ^ 32 }
+    ensures goes { Passes result (lexed_on list.old.items at.old names.now (chars text.now)) (lexed_on list.new.items at.new names.now) }
+    ensures stays { IfNone result ((list.new.items ≡ list.old.items) × (at.new ≡ at.old)) }
+    ensures taken { IfSome result (λ rest. length (chars rest.now) < length (chars text.now)) }
+    ensures longer { length list.new.items ≤ length list.old.items + 1 }
+    ensures line { IfSome result (λ rest. at.new.place.line + length (chars rest.now) ≤ at.old.place.line + length (chars text.now)) }
+    ensures column { IfSome result (λ rest. at.new.place.column + length (chars rest.now) ≤ at.old.place.column + length (chars text.now)) }
+{
+    let _names = names;
+    let _behind = behind;
+    match short_number_at(text) {
+        None => None,
+        Some(found) => match short_kind(found.decimal, found.value) {
+            None => None,
+            Some(kind) => put(list, at, kind, text, found.cut),
+        },
+    }
+}
+
+// The kind of a token of such a number, if some kind of integers holds it, as it always does.
+#[inline(always)]
+fn short_kind(decimal: bool, value: u64) -> Option<TokenKind>
+    ensures { IfSome result (λ kind. Some kind ≡ spec.integer_kind decimal false 0 value) }
+{
+    match literal_kind(decimal, false, 0, value) {
+        Some(_) => Some(TokenKind::Integer {
+            decimal,
+            unsigned: false,
+            longs: 0,
+            n: value,
+        }),
+        None => None,
+    }
+}
+
+// Whether a character is an ASCII letter or `_`.
+#[inline(always)]
+#[tactic(auto, using(crate::proofs::Passing::letter_is_far))]
+fn is_letter(c: char) -> bool
+    ensures letter { IsTrue result → (begins_identifier c ≡ true) × (64 < c) }
+    ensures other { IsFalse result → c < 128 → begins_identifier c ≡ false }
+{
+    c <= '\x7f' && begins_identifier(c)
+}
+
+// Whether only a punctuator begins with the character, and no comment.
+#[inline(always)]
+fn is_mark(c: char) -> bool
+    requires no_word { c < 128 → begins_identifier c ≡ false }
+    requires no_digit { is_ascii_digit c ≡ false }
+    ensures { IsTrue result → IsMark c }
+{
+    ' ' < c && c <= '\x7f' && c != '"' && c != '#' && c != '\'' && c != '/'
+}
+
+// Passes a white-space character within a line, which is a gap.
+#[inline(always)]
+fn space_pass(at: &mut Position, c: char, text: &str, behind: &str)
+    requires here { chars text.now ≡ c ∷ chars behind.now }
+    requires blank { characters.is_blank c ≡ true }
+    requires other { c ≢ 10 }
+    requires line { at.old.place.line + length (chars text.now) < 2 ^ 32 }
+    requires column { at.old.place.column + length (chars text.now) < 2 ^ 32 }
+    ensures goes { (list : List Token) (names : List Text) → lexed_on list at.old names (chars text.now) ≡ lexed_on list at.new names (chars behind.now) }
+    ensures line { at.new.place.line + length (chars behind.now) ≤ at.old.place.line + length (chars text.now) }
+    ensures column { at.new.place.column + length (chars behind.now) ≤ at.old.place.column + length (chars text.now) }
+{
+    let _c = c;
+    let _text = text;
+    let _behind = behind;
+    at.place = in_line(at.place, 1);
+}
+
+// Passes a line feed, which is a gap.
+#[inline(always)]
+fn line_pass(at: &mut Position, text: &str, behind: &str)
+    requires here { chars text.now ≡ 10 ∷ chars behind.now }
+    requires line { at.old.place.line + length (chars text.now) < 2 ^ 32 }
+    requires column { at.old.place.column + length (chars text.now) < 2 ^ 32 }
+    ensures goes { (list : List Token) (names : List Text) → lexed_on list at.old names (chars text.now) ≡ lexed_on list at.new names (chars behind.now) }
+    ensures line { at.new.place.line + length (chars behind.now) ≤ at.old.place.line + length (chars text.now) }
+    ensures column { at.new.place.column + length (chars behind.now) ≤ at.old.place.column + length (chars text.now) }
+{
+    let _text = text;
+    let _behind = behind;
+    at.place = next_line(at.place);
+}
+
+// The start of the next line.
+#[inline(always)]
+fn next_line(place: Place) -> Place
+    requires { place.line + 1 < 2 ^ 32 }
+    ensures { result ≡ record { line = place.line + 1; column = 1 } }
+{
+    Place {
+        line: place.line + 1,
+        column: 1,
+    }
+}
+
+// Passes the gap or the token at the front of a text, where it is told by few characters: white space, most words and punctuators
+// are. Nothing else changes.
+#[inline(always)]
+fn quick<'a>(
+    names: &Names,
+    recent: &Recent,
+    list: &mut Vec<Token>,
+    at: &mut Position,
+    text: &'a str,
+) -> Option<&'a str>
+    requires short { length list.old.items < 2 ^ 31 }
+    requires line { at.old.place.line + length (chars text.now) < 2 ^ 32 }
+    requires column { at.old.place.column + length (chars text.now) < 2 ^ 32 }
+    ensures goes { Passes result (lexed_on list.old.items at.old names.now (chars text.now)) (lexed_on list.new.items at.new names.now) }
+    ensures stays { IfNone result ((list.new.items ≡ list.old.items) × (at.new ≡ at.old)) }
+    ensures taken { IfSome result (λ rest. length (chars rest.now) < length (chars text.now)) }
+    ensures longer { length list.new.items ≤ length list.old.items + 1 }
+    ensures line { IfSome result (λ rest. at.new.place.line + length (chars rest.now) ≤ at.old.place.line + length (chars text.now)) }
+    ensures column { IfSome result (λ rest. at.new.place.column + length (chars rest.now) ≤ at.old.place.column + length (chars text.now)) }
+{
+    let (c, behind) = split_ascii(text)?;
+    if c == ' ' {
+        space_pass(at, c, text, behind);
+        Some(behind)
+    } else if let Some(found) = lone_punctuator(c, text, behind) {
+        put_mark(names, list, at, c, text, behind, found)
+    } else if is_letter(c) {
+        word_pass(names, recent, list, at, c, text, behind)
+    } else if c.is_ascii_digit() {
+        number_pass(names, list, at, c, text, behind)
+    } else if is_mark(c) {
+        mark_pass(names, list, at, c, text, behind)
+    } else if c == '\n' {
+        line_pass(at, text, behind);
+        Some(behind)
+    } else if is_blank(c) {
+        space_pass(at, c, text, behind);
+        Some(behind)
+    } else {
+        None
+    }
 }
 
 // An injected class may need these names, and no source has to write them.
@@ -467,7 +872,7 @@ fn tokens_of(alloc: Global, names: &mut Names, text: &str) -> Result<Tokens, Lex
     ensures few { IfOk result (λ found. length found.list ≤ length (chars text.now)) }
     ensures kept { Keeps names.old names.new }
 {
-    let mut list = Items::new(alloc);
+    let mut list = Vec::new(alloc);
     let mut recent = Recent::new();
     let mut at = Position {
         place: Place::START,
@@ -475,14 +880,21 @@ fn tokens_of(alloc: Global, names: &mut Names, text: &str) -> Result<Tokens, Lex
     };
     let mut rest = text;
     while !rest.is_empty() {
-        match turn(alloc, names, &mut recent, &mut list, &mut at, rest) {
-            Ok(behind) => rest = past_space(&mut at, behind),
-            Err(fault) => return Err(fault),
+        match quick(names, &recent, &mut list, &mut at, rest) {
+            Some(behind) => rest = behind,
+            None => {
+                let mut here = at;
+                match any_turn(alloc, names, &mut recent, &mut list, &mut here, rest) {
+                    Ok(behind) => rest = behind,
+                    Err(fault) => return Err(fault),
+                }
+                at = here;
+            }
         }
     }
     number_members(names)?;
     Ok(Tokens {
-        list,
+        list: Items::from_vec(list),
         end: at.place,
     })
 }

@@ -14,6 +14,7 @@ mod punctuator;
 mod quoted;
 mod recent;
 mod run;
+mod short_number;
 mod text;
 mod token;
 mod value;

@@ -5,11 +5,12 @@ ghost use Rattle.cxx_base.specs.Texts.{Text};
 ghost use Rattle.cxx_tokens.specs.Cuts.{IsCut, seen_punctuator, seen_punctuators};
 ghost use Rattle.cxx_tokens.specs.Search.{IsOfTwo, combined, goes_on, longest_among};
 ghost use Rattle.cxx_tokens.specs.Punctuators as spec;
+ghost use Rattle.cxx_tokens.specs.Turns.{IsMark};
 ghost use Rattle.cxx_tokens.specs.Words.{AreBelow};
 ghost use Rattle.cxx_tokens.specs.declared.punctuator.TheConstants.{PUNCTUATORS, BY_FIRST, ALONE, SHORTEST, WITH_EQUAL, DOUBLED};
 
 use crate::mark::{ARROW, LEFT_BRACKET};
-use crate::text::{Cut, first, first_is, split_first, strip};
+use crate::text::{Cut, first, first_is, split_ascii, strip};
 
 /// The punctuators, in the order in which they are numbered.
 pub const PUNCTUATORS: [&[u8]; 49] = [
@@ -313,12 +314,22 @@ fn number_in(table: &[u8], c: char) -> u32
     }
 }
 
+// The number of the punctuator that is this character, where that begins no other one; else 49.
+#[inline(always)]
+fn lone_number(alone: &[u8], c: char) -> u32
+    requires { alone.now ≡ ALONE }
+    ensures { result ≡ get_or ALONE c 49 }
+{
+    number_in(alone, c)
+}
+
 // The punctuator of this number that the first character of a text is, which begins no other one.
 #[inline]
 fn lone_mark<'a>(number: u32, c: char, text: &str, rest: &'a str) -> Punctuator<'a>
     requires here { chars text.now ≡ c ∷ chars rest.now }
     requires told { number ≡ get_or ALONE c 49 }
     requires less { number < 49 }
+    ensures mark { IsMark c }
     ensures punctuator { Some (seen_punctuator result) ≡ spec.punctuator_at (chars text.now) }
     ensures cut { (0 < result.cut.length) × IsCut text.now result.cut }
 {
@@ -355,6 +366,22 @@ fn short_mark<'a>(
     }
 }
 
+/// The punctuator that the first character of a text is, where that begins nothing else.
+#[inline(always)]
+pub fn lone_punctuator<'a>(c: char, text: &str, rest: &'a str) -> Option<Punctuator<'a>>
+    requires { chars text.now ≡ c ∷ chars rest.now }
+    ensures mark { IfSome result (λ _. IsMark c) }
+    ensures punctuator { IfSome result (λ found. Some (seen_punctuator found) ≡ spec.punctuator_at (chars text.now)) }
+    ensures cut { IfSome result (λ found. (0 < found.cut.length) × IsCut text.now found.cut) }
+{
+    let number = lone_number(&ALONE, c);
+    if number < 49 {
+        Some(lone_mark(number, c, text, rest))
+    } else {
+        None
+    }
+}
+
 // A punctuator of one character, where that character or the one behind it tells that it is no longer one.
 #[inline(always)]
 fn told_by_one<'a>(alone: &[u8], shortest: &[u8], text: &'a str) -> Option<Punctuator<'a>>
@@ -363,12 +390,12 @@ fn told_by_one<'a>(alone: &[u8], shortest: &[u8], text: &'a str) -> Option<Punct
     ensures punctuator { IfSome result (λ found. Some (seen_punctuator found) ≡ spec.punctuator_at (chars text.now)) }
     ensures cut { IfSome result (λ found. (0 < found.cut.length) × IsCut text.now found.cut) }
 {
-    let (c, rest) = split_first(text)?;
+    let (c, rest) = split_ascii(text)?;
     let lone = number_in(alone, c);
     if lone < 49 {
         return Some(lone_mark(lone, c, text, rest));
     }
-    let (next, more) = split_first(rest)?;
+    let (next, more) = split_ascii(rest)?;
     if goes_on(next) {
         return None;
     }
@@ -465,9 +492,9 @@ fn told_by_two<'a>(with_equal: &[u8], doubled: &[u8], text: &'a str) -> Option<P
     ensures punctuator { IfSome result (λ found. Some (seen_punctuator found) ≡ spec.punctuator_at (chars text.now)) }
     ensures cut { IfSome result (λ found. (0 < found.cut.length) × IsCut text.now found.cut) }
 {
-    let (c, rest) = split_first(text)?;
-    let (next, behind) = split_first(rest)?;
-    let (third, more) = split_first(behind)?;
+    let (c, rest) = split_ascii(text)?;
+    let (next, behind) = split_ascii(rest)?;
+    let (third, more) = split_ascii(behind)?;
     let number = number_of_two(with_equal, doubled, c, next);
     if number < 49 {
         if third == '=' {
@@ -478,16 +505,25 @@ fn told_by_two<'a>(with_equal: &[u8], doubled: &[u8], text: &'a str) -> Option<P
     None
 }
 
-/// The punctuator at the front of a text.
+/// The punctuator at the front of a text, where its first characters and the one behind them tell it.
 #[inline(always)]
+pub fn short_punctuator_at(text: &str) -> Option<Punctuator<'_>>
+    ensures punctuator { IfSome result (λ found. Some (seen_punctuator found) ≡ spec.punctuator_at (chars text.now)) }
+    ensures cut { IfSome result (λ found. (0 < found.cut.length) × IsCut text.now found.cut) }
+{
+    match told_by_one(&ALONE, &SHORTEST, text) {
+        Some(found) => Some(found),
+        None => told_by_two(&WITH_EQUAL, &DOUBLED, text),
+    }
+}
+
+/// The punctuator at the front of a text.
+#[inline]
 pub fn punctuator_at(text: &str) -> Option<Punctuator<'_>>
     ensures punctuator { seen_punctuators result ≡ spec.punctuator_at (chars text.now) }
     ensures cut { IfSome result (λ found. (0 < found.cut.length) × IsCut text.now found.cut) }
 {
-    if let Some(found) = told_by_one(&ALONE, &SHORTEST, text) {
-        return Some(found);
-    }
-    match told_by_two(&WITH_EQUAL, &DOUBLED, text) {
+    match short_punctuator_at(text) {
         Some(found) => Some(found),
         None => searched(text),
     }

@@ -1,6 +1,6 @@
 //! String literals ([lex.string]).
 
-ghost use Rattle.std.specs.Prelude.{◌≡◌, ◌++◌, chars, IfOk, OnOk, encode_utf8, Ok, Err};
+ghost use Rattle.std.specs.Prelude.{◌≡◌, ◌++◌, chars, take, drop, IfOk, OnOk, encode_utf8_all, Ok, Err};
 ghost use Rattle.cxx_tokens.specs.Cuts.{IsCut};
 ghost use Rattle.cxx_tokens.specs.Gives.{Fails, GivesQuoted};
 ghost use Rattle.cxx_tokens.specs.Literals as spec;
@@ -8,7 +8,8 @@ ghost use Rattle.cxx_tokens.specs.Literals.{Quoted as QuotedText};
 
 use crate::escape::{Escape, escape_at};
 use crate::fault::LexFault;
-use crate::text::{Cut, split_first};
+use crate::run::{Class, run};
+use crate::text::{Cut, front, split_first};
 use cxx_base::{Bytes, Memory, Place};
 use std::alloc::Global;
 
@@ -29,12 +30,12 @@ fn no_escape(place: Place, text: &str) -> LexFault
     }
 }
 
-// Puts a character's bytes at the end.
-fn push_character(bytes: &mut Bytes, c: char) -> Result<(), Memory>
-    ensures { OnOk result (bytes.new ≡ bytes.old ++ encode_utf8 c) }
+// Puts the bytes of the first characters of a text at the end.
+fn push_front(bytes: &mut Bytes, text: &str, count: usize, rest: &str) -> Result<(), Memory>
+    requires { chars rest.now ≡ drop count (chars text.now) }
+    ensures { OnOk result (bytes.new ≡ bytes.old ++ encode_utf8_all (take count (chars text.now))) }
 {
-    let mut buffer = [0; 4];
-    bytes.extend(c.encode_utf8(&mut buffer).as_bytes())
+    bytes.extend(front(text, count, rest).as_bytes())
 }
 
 /// The string behind its first quote, with the second one.
@@ -66,9 +67,11 @@ pub fn string_at(alloc: Global, place: Place, text: &str) -> Result<Quoted<'_>, 
                 }
             }
         } else {
-            push_character(&mut bytes, c)?;
-            length += 1;
-            rest = after;
+            let plain = run(Class::Plain, after);
+            let count = 1 + plain.length;
+            push_front(&mut bytes, rest, count, plain.rest)?;
+            length += count;
+            rest = plain.rest;
         }
     }
     Err(LexFault::L4(place))

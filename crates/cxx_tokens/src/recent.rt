@@ -1,6 +1,6 @@
 //! The names that a source used last.
 
-ghost use Rattle.std.specs.Prelude.{◌≡◌, ◌<◌, ◌^◌, true, length, IsTrue, IfOk, OnOk, OnErr};
+ghost use Rattle.std.specs.Prelude.{◌≡◌, ◌<◌, ◌^◌, true, length, IsTrue, IfOk, IfSome, OnOk, OnErr};
 ghost use Rattle.cxx_base.specs.Texts.{has_text, number_of, with_text};
 
 use crate::word::key;
@@ -19,7 +19,7 @@ impl Drop for Recent {
 }
 
 // Whether a text has this number.
-#[inline]
+#[inline(always)]
 fn is_number_of(names: &Names, number: u32, text: &str) -> bool
     ensures { IsTrue result → (number ≡ number_of names.now text.now) × (has_text names.now text.now ≡ true) }
 {
@@ -33,6 +33,20 @@ impl Recent {
     /// No name was used.
     pub fn new() -> Recent {
         Recent { numbers: [0; 512] }
+    }
+
+    /// The number of a text of this key, where it is a name that was used before and the guess is right.
+    #[inline(always)]
+    pub fn find(&self, names: &Names, key: usize, text: &str) -> Option<Name>
+        requires { key < 512 }
+        ensures { IfSome result (λ name. (name.0 ≡ number_of names.now text.now) × (has_text names.now text.now ≡ true)) }
+    {
+        let guess = self.numbers[key];
+        if is_number_of(names, guess, text) {
+            Some(Name(guess))
+        } else {
+            None
+        }
     }
 
     /// The number of a text, which goes to the end of the names where it is new. Without memory the names do not change.

@@ -1,10 +1,11 @@
 //! Runs of characters of one class.
 
-ghost use Rattle.std.specs.Prelude.{◌≡◌, false, nat_le, chars, min};
+ghost use Rattle.std.specs.Prelude.{◌≡◌, false, nat_le, chars, min, IfSome};
 ghost use Rattle.std.specs.List.{prefix_len};
 ghost use Rattle.cxx_tokens.specs.Characters.{first_is};
 ghost use Rattle.cxx_tokens.specs.Cuts.{IsCut, class_test, is_ascii_in};
 ghost use Rattle.cxx_tokens.specs.Gaps.{past};
+ghost use Rattle.cxx_tokens.specs.declared.run.TheConstants.{CONTINUES};
 
 use crate::character::{continues_identifier, is_blank};
 use crate::text::{Cut, behind_ascii, split_first};
@@ -20,6 +21,8 @@ pub enum Class {
     InLine,
     /// All but the double quote.
     NoQuote,
+    /// What stands for itself in a string: no double quote, no backslash and no line feed.
+    Plain,
     /// `0` to `9`.
     Digit,
     /// `0` to `7`.
@@ -37,6 +40,7 @@ fn is_in(class: Class, c: char) -> bool
         Class::Blank => is_blank(c),
         Class::InLine => c != '\n',
         Class::NoQuote => c != '"',
+        Class::Plain => c != '"' && (c != '\\' && c != '\n'),
         Class::Digit => c.is_ascii_digit(),
         Class::Octal => c.is_digit(8),
         Class::Hexadecimal => c.is_digit(16),
@@ -81,15 +85,54 @@ fn run_of(class: Class, bytes: &[u8]) -> usize
     end
 }
 
-#[inline]
-fn continuing_run(bytes: &[u8]) -> usize
+// Whether each byte is an ASCII character with which an identifier goes on.
+const CONTINUES: [bool; 256] = [
+    false, false, false, false, false, false, false, false, false, false, false, false, false,
+    false, false, false, false, false, false, false, false, false, false, false, false, false,
+    false, false, false, false, false, false, false, false, false, false, false, false, false,
+    false, false, false, false, false, false, false, false, false, true, true, true, true, true,
+    true, true, true, true, true, false, false, false, false, false, false, false, true, true,
+    true, true, true, true, true, true, true, true, true, true, true, true, true, true, true, true,
+    true, true, true, true, true, true, true, true, false, false, false, false, true, false, true,
+    true, true, true, true, true, true, true, true, true, true, true, true, true, true, true, true,
+    true, true, true, true, true, true, true, true, true, false, false, false, false, false, false,
+    false, false, false, false, false, false, false, false, false, false, false, false, false,
+    false, false, false, false, false, false, false, false, false, false, false, false, false,
+    false, false, false, false, false, false, false, false, false, false, false, false, false,
+    false, false, false, false, false, false, false, false, false, false, false, false, false,
+    false, false, false, false, false, false, false, false, false, false, false, false, false,
+    false, false, false, false, false, false, false, false, false, false, false, false, false,
+    false, false, false, false, false, false, false, false, false, false, false, false, false,
+    false, false, false, false, false, false, false, false, false, false, false, false, false,
+    false, false, false, false, false, false, false, false, false, false, false, false, false,
+    false, false, false, false, false, false, false, false, false, false,
+];
+
+// The run of those with which an identifier goes on, by their table.
+#[inline(always)]
+fn continuing_run(continues: &[bool], bytes: &[u8]) -> usize
+    requires { continues.now ≡ CONTINUES }
     ensures { result ≡ prefix_len (is_ascii_in Class.Continuing) bytes.now }
 {
     let mut end = 0;
-    while end < bytes.len() && is_byte_in(Class::Continuing, bytes[end]) {
+    while end < bytes.len() && in_table(continues, bytes[end]) {
         end += 1;
     }
     end
+}
+
+// Whether the table says so of a byte.
+#[inline(always)]
+fn in_table(continues: &[bool], byte: u8) -> bool
+    requires { continues.now ≡ CONTINUES }
+    ensures { result ≡ is_ascii_in Class.Continuing byte }
+{
+    let at = byte as usize;
+    if at < continues.len() {
+        continues[at]
+    } else {
+        false
+    }
 }
 
 fn in_line_run(bytes: &[u8]) -> usize
@@ -102,16 +145,27 @@ fn in_line_run(bytes: &[u8]) -> usize
     end
 }
 
+fn plain_run(bytes: &[u8]) -> usize
+    ensures { result ≡ prefix_len (is_ascii_in Class.Plain) bytes.now }
+{
+    let mut end = 0;
+    while end < bytes.len() && is_byte_in(Class::Plain, bytes[end]) {
+        end += 1;
+    }
+    end
+}
+
 /// How many ASCII characters of the class stand at the front of a text, by its bytes.
 #[inline(always)]
 pub fn ascii_run(class: Class, bytes: &[u8]) -> usize
     ensures { result ≡ prefix_len (is_ascii_in class) bytes.now }
 {
     match class {
-        Class::Continuing => continuing_run(bytes),
+        Class::Continuing => continuing_run(&CONTINUES, bytes),
         Class::InLine => in_line_run(bytes),
         Class::Blank => run_of(Class::Blank, bytes),
         Class::NoQuote => run_of(Class::NoQuote, bytes),
+        Class::Plain => plain_run(bytes),
         Class::Digit => run_of(Class::Digit, bytes),
         Class::Octal => run_of(Class::Octal, bytes),
         Class::Hexadecimal => run_of(Class::Hexadecimal, bytes),
@@ -159,6 +213,23 @@ pub fn run<'a>(class: Class, text: &'a str) -> Cut<'a>
         length: count + more.length,
         rest: more.rest,
     }
+}
+
+/// The same, where the run is ASCII and no character beyond ASCII stands behind it.
+#[inline(always)]
+pub fn short_run<'a>(class: Class, text: &'a str) -> Option<Cut<'a>>
+    ensures length { IfSome result (λ cut. cut.length ≡ prefix_len (class_test class) (chars text.now)) }
+    ensures cut { IfSome result (λ cut. IsCut text.now cut) }
+{
+    let count = ascii_run(class, text.as_bytes());
+    let rest = behind_ascii(text, count);
+    if begins_wide(rest.as_bytes()) {
+        return None;
+    }
+    Some(Cut {
+        length: count,
+        rest,
+    })
 }
 
 /// What follows the longest run of characters of the class.

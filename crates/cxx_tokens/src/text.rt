@@ -44,6 +44,23 @@ pub fn split_first(text: &str) -> Option<(char, &str)>
     }
 }
 
+/// The first character of a text, and what follows it, where it is ASCII.
+#[inline(always)]
+pub fn split_ascii(text: &str) -> Option<(char, &str)>
+    ensures { IfSome result (λ found. chars text.now ≡ found.0 ∷ chars found.1.now) }
+{
+    let bytes = text.as_bytes();
+    if bytes.is_empty() {
+        return None;
+    }
+    let byte = bytes[0];
+    if byte < 0x80 {
+        Some((char::from(byte), behind_ascii(text, 1)))
+    } else {
+        None
+    }
+}
+
 /// The first character of a text.
 #[inline]
 pub fn first(text: &str) -> Option<char>

@@ -133,7 +133,17 @@ const BY_KEY: [u8; 512] = [
 pub fn reserved(text: &[u8]) -> Option<u32>
     ensures { result ≡ reserved text.now }
 {
-    place_by_key(&WORDS, &BY_KEY, text)
+    reserved_by_key(key(text), text)
+}
+
+/// The same of a text of this key.
+#[inline(always)]
+pub fn reserved_by_key(key: usize, text: &[u8]) -> Option<u32>
+    requires key { key ≡ spec.key text.now }
+    requires small { key < 512 }
+    ensures { result ≡ reserved text.now }
+{
+    place_by_key(&WORDS, &BY_KEY, key, text)
 }
 
 #[inline]
@@ -162,12 +172,13 @@ pub fn key(text: &[u8]) -> usize
 
 // Tries only the word that has the key of the text.
 #[inline]
-fn place_by_key(words: &[&[u8]], places: &[u8], text: &[u8]) -> Option<u32>
+fn place_by_key(words: &[&[u8]], places: &[u8], key: usize, text: &[u8]) -> Option<u32>
+    requires key { key ≡ spec.key text.now }
+    requires small { key < 512 }
     requires words { map (λ word. word.now) words.now ≡ map (λ word. word.now) WORDS }
     requires places { places.now ≡ BY_KEY }
     ensures { result ≡ reserved text.now }
 {
-    let key = key(text);
     if key < places.len() {
         word_at(words, u32::from(places[key]), text)
     } else {

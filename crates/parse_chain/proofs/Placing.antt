@@ -1,5 +1,5 @@
 -- The steps of a climb, as the functions make them.
-use Rattle.std.proofs.Common.{◌≡◌, ℕ, ◌+◌, ◌<◌, ◌≤◌, List, [], ◌∷◌, ◌++◌, Some, None, ap, ◌∙◌, sym}
+use Rattle.std.proofs.Common.{◌≡◌, ℕ, ◌+◌, ◌<◌, ◌≤◌, List, [], ◌∷◌, ◌++◌, Some, None, ap, ◌∙◌, sym, refl}
 use Rattle.cxx_tree.specs.declared.expr.Expr.{Expr}
 use Rattle.cxx_tokens.specs.declared.token.Tokens.{Tokens}
 use Rattle.cxx_reading.specs.Extents.{EndsFrom}
@@ -66,6 +66,16 @@ module _ (tokens : Tokens) (i : ℕ) (operator : Operator) (there : operator_at 
         ∙ ap (λ (all : List OpenChain). climb tokens (read tokens level) all 0 (i + 1) y k) (sym made);
   }
 
+  -- what was taken off is put on again
+  pub turn_within : (rest outer : List OpenChain) (o : OpenChain) (start : ℕ) (x : Expr) → Placing rest start x → rest ≡ outer ++ o ∷ [] → Placing (outer ++ o ∷ []) start x
+  turn_within rest outer o start x h e level = h level ∙ ap (λ (all : List OpenChain). climb tokens (read tokens level) all operator.line start x i) e
+
+-- the first operator, with no chain around it
+pub first_places : (tokens : Tokens) (i : ℕ) (operator : Operator) → operator_at tokens i ≡ Some (operator, i + 1) → operator.line < 10
+    → (start : ℕ) (x : Expr) (rest after : List OpenChain) → rest ≡ [] → after ≡ rest ++ opened operator start x i ∷ [] → Places tokens [] start x i after
+first_places tokens i operator there line start x rest after none made =
+    begins_first tokens i operator there [] start x [] rest after start x (at_first tokens i operator there [] start x) refl none made line
+
 -- ---- all chains end
 
 module _ (tokens : Tokens) (i : ℕ) (before : List OpenChain) (first : ℕ) (whole : Expr) where
@@ -86,6 +96,21 @@ module _ (tokens : Tokens) (i : ℕ) (before : List OpenChain) (first : ℕ) (wh
         ∙ ap (λ (all : List OpenChain). climb tokens (read tokens level) all 0 start x i) e
         ∙ idle_all tokens (read tokens level) i idle start x;
   }
+
+-- with no chain, the operand is the whole
+pub finishes_alone : (tokens : Tokens) (i start : ℕ) (x : Expr) (chains : List OpenChain) → chains ≡ [] → Finishes tokens chains start x i x
+finishes_alone tokens i start x chains none = finished_by tokens i chains start x chains start x (λ level idle. refl) none
+
+-- the innermost chain ends before the others
+pub finishes_within : (tokens : Tokens) (i : ℕ) (chains rest : List OpenChain) (o : OpenChain) (start : ℕ) (x y made : Expr) → chains ≡ rest ++ o ∷ [] → y ≡ closed tokens o x i
+    → Finishes tokens rest o.start y i made → Finishes tokens chains start x i made
+finishes_within tokens i chains rest o start x y made parts e f = record {
+  same = λ level idle.
+      ap (λ (all : List OpenChain). climb tokens (read tokens level) all 0 start x i) parts
+      ∙ idle_end tokens (read tokens level) i idle rest o start x
+      ∙ ap (λ (z : Expr). climb tokens (read tokens level) rest 0 o.start z i) (sym e)
+      ∙ f.same level idle;
+}
 
 -- ---- the climb
 

@@ -1,5 +1,5 @@
 -- OpenChain chains: their operators and operands so far. The operand behind the last operator is read.
-use Rattle.std.specs.Prelude.{ℕ, List, [], ◌∷◌, ◌++◌}
+use Rattle.std.specs.Prelude.{ℕ, List, [], ◌∷◌, ◌++◌, Option, Some, None}
 use Rattle.cxx_tree.specs.declared.expr.Expr.{Expr}
 use Rattle.cxx_tree.specs.declared.expr.Expr.TheVariants as expr-of
 use Rattle.cxx_tree.specs.declared.expr.Operation.{Operation}
@@ -9,6 +9,7 @@ use Rattle.cxx_tokens.specs.declared.token.Tokens.{Tokens}
 use Rattle.cxx_reading.specs.Reading.{span}
 use Rattle.cxx_grammar.specs.declared.operator.Operator.{Operator}
 use Rattle.parse_chain.specs.declared.open_chain.OpenChain.{OpenChain}
+use Rattle.parse_chain.specs.declared.open_chain.OpenChains.{OpenChains}
 
 -- the operations with the last one, whose operand ends before this token
 abbrev pub operations_with : Tokens → OpenChain → Expr → ℕ → List Operation
@@ -25,3 +26,12 @@ extended tokens o x op end = record { line = o.line; start = o.start; first = o.
 -- a chain that begins
 abbrev pub opened : Operator → ℕ → Expr → ℕ → OpenChain
 opened operator start x begin = record { line = operator.line; start = start; first = x; done = []; op = operator.op; begin = begin }
+
+-- all open chains, the innermost last
+abbrev pub all : OpenChains → List OpenChain
+all o = o.outer ++ o.inner ∷ []
+
+-- the same, where there may be none
+abbrev pub all_if : Option OpenChains → List OpenChain
+all_if (Some o) = all o
+all_if None = []

@@ -1,16 +1,16 @@
 //! The climb.
 
-ghost use Rattle.std.specs.Prelude.{◌≡◌, ◌<◌, ◌+◌, ◌++◌, ◌∷◌, [], Some, IfOk};
+ghost use Rattle.std.specs.Prelude.{◌≡◌, ◌<◌, ◌+◌, ◌++◌, ◌∷◌, [], ℕ, Some, IfOk};
 ghost use Rattle.cxx_grammar.specs.Joined as joined;
 ghost use Rattle.cxx_grammar.specs.Read.{read};
 ghost use Rattle.cxx_grammar.specs.Unaries.{unary};
 ghost use Rattle.cxx_reading.specs.Answers.{ReadsRule};
 ghost use Rattle.cxx_reading.specs.Reading.{Gives};
-ghost use Rattle.parse_chain.specs.Chains.{opened, extended};
+ghost use Rattle.parse_chain.specs.Chains.{opened, extended, all, all_if};
 ghost use Rattle.parse_chain.specs.Climbs.{Places, Finishes};
 ghost use Rattle.parse_chain.specs.Next.{operator_at};
 
-use crate::open_chain::OpenChain;
+use crate::open_chain::{OpenChain, OpenChains};
 use crate::operator::operator_at;
 use containers::Items;
 use cxx_grammar::Operator;
@@ -19,37 +19,54 @@ use cxx_tokens::Tokens;
 use cxx_tree::Expr;
 use std::alloc::{AllocError, Global};
 
-// Puts a new chain behind the open ones.
+// The chain that begins with an operator, within those.
+#[inline(always)]
 fn begun(
     alloc: Global,
     operator: Operator,
-    mut chains: Items<OpenChain>,
+    outer: Items<OpenChain>,
     start: u32,
     x: Expr,
     at: u32,
-) -> Result<Items<OpenChain>, AllocError>
-    ensures { IfOk result (λ after. after ≡ chains ++ opened operator start x at ∷ []) }
+) -> Result<OpenChains, AllocError>
+    ensures { IfOk result (λ after. all after ≡ outer ++ opened operator start x at ∷ []) }
 {
-    let chain = OpenChain::new(alloc, operator, start, x, at)?;
-    chains.push(chain)?;
-    Ok(chains)
+    let inner = OpenChain::new(alloc, operator, start, x, at)?;
+    Ok(OpenChains { outer, inner })
 }
 
-// Puts a chain back with its operand and a further operator.
+// The same within one more.
+#[inline(always)]
+fn begun_within(
+    alloc: Global,
+    operator: Operator,
+    mut outer: Items<OpenChain>,
+    chain: OpenChain,
+    start: u32,
+    x: Expr,
+    at: u32,
+) -> Result<OpenChains, AllocError>
+    ensures { IfOk result (λ after. all after ≡ (outer ++ chain ∷ []) ++ opened operator start x at ∷ []) }
+{
+    outer.push(chain)?;
+    begun(alloc, operator, outer, start, x, at)
+}
+
+// The chain with its operand and a further operator.
+#[inline(always)]
 fn gone_on(
     alloc: Global,
     tokens: &Tokens,
     operator: Operator,
-    mut chains: Items<OpenChain>,
+    outer: Items<OpenChain>,
     chain: OpenChain,
     x: Expr,
     at: u32,
-) -> Result<Items<OpenChain>, AllocError>
-    ensures { IfOk result (λ after. after ≡ chains ++ extended tokens.now chain x operator.op at ∷ []) }
+) -> Result<OpenChains, AllocError>
+    ensures { IfOk result (λ after. all after ≡ outer ++ extended tokens.now chain x operator.op at ∷ []) }
 {
-    let chain = chain.extended(alloc, tokens, x, operator.op, at)?;
-    chains.push(chain)?;
-    Ok(chains)
+    let inner = chain.extended(alloc, tokens, x, operator.op, at)?;
+    Ok(OpenChains { outer, inner })
 }
 
 // The open chains with the operator at token number `at`, before which the operand `x` ends that began at `start`. The chains
@@ -59,32 +76,33 @@ fn placed(
     alloc: Global,
     tokens: &Tokens,
     operator: Operator,
-    mut chains: Items<OpenChain>,
+    chains: OpenChains,
     mut start: u32,
     mut x: Expr,
     at: u32,
-) -> Result<Items<OpenChain>, AllocError>
+) -> Result<OpenChains, AllocError>
     requires there { operator_at tokens.now at ≡ Some (operator, at + 1) }
     requires line { operator.line < 10 }
-    ensures { IfOk result (λ after. Places tokens.now chains start x at after) }
+    ensures { IfOk result (λ after. Places tokens.now (all chains) start x at (all after)) }
 {
-    while let Some(chain) = chains.pop() {
-        if chain.line > operator.line {
-            chains.push(chain)?;
-            return begun(alloc, operator, chains, start, x, at);
+    let (mut outer, mut inner) = chains.parts();
+    while inner.line < operator.line {
+        start = inner.start;
+        x = inner.closed(alloc, tokens, x, at)?;
+        match outer.pop() {
+            Some(chain) => inner = chain,
+            None => return begun(alloc, operator, outer, start, x, at),
         }
-        if chain.line == operator.line {
-            return gone_on(alloc, tokens, operator, chains, chain, x, at);
-        }
-        start = chain.start;
-        x = chain.closed(alloc, tokens, x, at)?;
     }
-    begun(alloc, operator, chains, start, x, at)
+    if inner.line == operator.line {
+        gone_on(alloc, tokens, operator, outer, inner, x, at)
+    } else {
+        begun_within(alloc, operator, outer, inner, start, x, at)
+    }
 }
 
-// The whole expression where no operation follows at token number `at`: all open chains end there.
-#[inline(never)]
-fn finished(
+// The whole expression where no operation follows at token number `at`: these chains end there.
+fn ended(
     alloc: Global,
     tokens: &Tokens,
     mut chains: Items<OpenChain>,
@@ -101,7 +119,77 @@ fn finished(
     Ok(x)
 }
 
-// The operations of all lines behind an operand, as `climbed` gives them.
+// The same of all chains.
+#[inline(never)]
+fn finished(
+    alloc: Global,
+    tokens: &Tokens,
+    chains: OpenChains,
+    x: Expr,
+    at: u32,
+) -> Result<Expr, AllocError>
+    ensures { (start : ℕ) → IfOk result (λ made. Finishes tokens.now (all chains) start x at made) }
+{
+    let (outer, inner) = chains.parts();
+    let start = inner.start;
+    let x = inner.closed(alloc, tokens, x, at)?;
+    ended(alloc, tokens, outer, start, x, at)
+}
+
+// The chain of the first operator, with no chain around it.
+#[inline(always)]
+fn first(
+    alloc: Global,
+    tokens: &Tokens,
+    operator: Operator,
+    start: u32,
+    x: Expr,
+    at: u32,
+) -> Result<OpenChains, AllocError>
+    requires there { operator_at tokens.now at ≡ Some (operator, at + 1) }
+    requires line { operator.line < 10 }
+    ensures { IfOk result (λ after. Places tokens.now [] start x at (all after)) }
+{
+    begun(alloc, operator, Items::new(alloc), start, x, at)
+}
+
+// The operator at token number `at` among the open chains, of which there may be none.
+fn next(
+    alloc: Global,
+    tokens: &Tokens,
+    operator: Operator,
+    chains: Option<OpenChains>,
+    start: u32,
+    x: Expr,
+    at: u32,
+) -> Result<OpenChains, AllocError>
+    requires there { operator_at tokens.now at ≡ Some (operator, at + 1) }
+    requires line { operator.line < 10 }
+    ensures { IfOk result (λ after. Places tokens.now (all_if chains) start x at (all after)) }
+{
+    match chains {
+        Some(chains) => placed(alloc, tokens, operator, chains, start, x, at),
+        None => first(alloc, tokens, operator, start, x, at),
+    }
+}
+
+// The whole expression where no operation follows at token number `at`.
+fn whole(
+    alloc: Global,
+    tokens: &Tokens,
+    chains: Option<OpenChains>,
+    x: Expr,
+    at: u32,
+) -> Result<Expr, AllocError>
+    ensures { (start : ℕ) → IfOk result (λ made. Finishes tokens.now (all_if chains) start x at made) }
+{
+    match chains {
+        Some(chains) => finished(alloc, tokens, chains, x, at),
+        None => Ok(x),
+    }
+}
+
+// The operations of all lines behind an operand `x` that began at token number `start` and ends before number `at`.
 #[inline(never)]
 fn climbed_on<D, O: Fn(u32) -> Result<(Expr, u32), ExprFault>>(
     reader: &Reader<'_, D>,
@@ -114,29 +202,31 @@ fn climbed_on<D, O: Fn(u32) -> Result<(Expr, u32), ExprFault>>(
     requires reads { ReadsRule (unary reader.now.tokens.now (read reader.now.tokens.now reader.now.level)) (O.post operand) }
     ensures { Gives (joined.climbed reader.now.tokens.now (read reader.now.tokens.now reader.now.level) 10 start x at) result }
 {
-    let mut chains = Items::new(reader.alloc);
+    let mut chains = None;
     while let Some((operator, behind)) = operator_at(reader.tokens, at) {
         match operand(behind) {
-            Ok((next, end)) => {
-                chains = placed(reader.alloc, reader.tokens, operator, chains, start, x, at)?;
+            Ok((next_x, end)) => {
+                let after = next(reader.alloc, reader.tokens, operator, chains, start, x, at)?;
+                chains = Some(after);
                 start = behind;
-                x = next;
+                x = next_x;
                 at = end;
             }
             Err(ExprFault::S1) => {
-                let made = finished(reader.alloc, reader.tokens, chains, start, x, at)?;
+                let made = whole(reader.alloc, reader.tokens, chains, x, at)?;
                 return Ok((made, at));
             }
             Err(ExprFault::S2) => return Err(ExprFault::S2),
             Err(ExprFault::Memory) => return Err(ExprFault::Memory),
         }
     }
-    let made = finished(reader.alloc, reader.tokens, chains, start, x, at)?;
+    let made = whole(reader.alloc, reader.tokens, chains, x, at)?;
     Ok((made, at))
 }
 
 /// The operations of all lines behind an operand `x` that began at token number `start` and ends before number `at`. `operand`
-/// reads a further operand at a token. Behind most operands no operator stands, and then nothing is built.
+/// reads a further operand at a token. An operand that no operator follows costs one look.
+#[inline]
 #[tactic(auto, using(crate::proofs::Placing::ends_at_once))]
 pub fn climbed<D, O: Fn(u32) -> Result<(Expr, u32), ExprFault>>(
     reader: &Reader<'_, D>,

@@ -9,3 +9,4 @@ mod open_chain;
 mod operator;
 
 pub use climb::climbed;
+pub use operator::operator_at;

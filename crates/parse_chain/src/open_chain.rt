@@ -1,6 +1,6 @@
 //! Chains that are open.
 
-ghost use Rattle.std.specs.Prelude.{◌≡◌, IfOk};
+ghost use Rattle.std.specs.Prelude.{◌≡◌, ◌++◌, ◌∷◌, [], IfOk};
 
 use containers::{Boxed, Items};
 use cxx_grammar::Operator;
@@ -37,6 +37,31 @@ impl Drop for OpenChain {
     }
 }
 
+/// The chains that are open, at least one. The innermost is apart from those around it, so that one alone takes no list.
+pub struct OpenChains {
+    pub outer: Items<OpenChain>,
+    pub inner: OpenChain,
+}
+
+impl Drop for OpenChains {
+    fn drop(self) {
+        let OpenChains { outer: _, inner: _ } = self;
+    }
+}
+
+impl OpenChains {
+    ghost use Rattle.parse_chain.specs.Chains.{all};
+
+    /// The chains around the innermost, and it.
+    #[inline(always)]
+    pub fn parts(self) -> (Items<OpenChain>, OpenChain)
+        ensures { all self ≡ result.0 ++ result.1 ∷ [] }
+    {
+        let OpenChains { outer, inner } = self;
+        (outer, inner)
+    }
+}
+
 // The operations so far. Where there are none, a second one is sure to follow the first, so there is room for two.
 fn with_room(alloc: Global, done: Items<Operation>) -> Result<Items<Operation>, AllocError>
     ensures { IfOk result (λ after. after ≡ done) }
@@ -52,6 +77,7 @@ impl OpenChain {
     ghost use Rattle.parse_chain.specs.Chains as spec;
 
     /// A chain that begins with an operand, which began at `start`, and the operator at token number `begin`.
+    #[inline(always)]
     pub fn new(
         alloc: Global,
         operator: Operator,
@@ -73,6 +99,7 @@ impl OpenChain {
     }
 
     /// The chain with its operand, which ends before token number `end`, and a further operator of its line, which stands there.
+    #[inline(always)]
     pub fn extended(
         self,
         alloc: Global,
@@ -105,6 +132,7 @@ impl OpenChain {
     }
 
     /// The whole chain with its last operand, which ends before token number `end`.
+    #[inline(always)]
     pub fn closed(
         self,
         alloc: Global,

@@ -5,14 +5,17 @@ ghost use Rattle.cxx_grammar.specs.Read.{read};
 ghost use Rattle.cxx_reading.specs.Reading.{Gives};
 ghost use Rattle.cxx_grammar.specs.Expressions as expressions;
 ghost use Rattle.cxx_reading.specs.Reading.{optional};
+ghost use Rattle.std.specs.Prelude.{◌≡◌};
+ghost use Rattle.parse_expr.specs.Looks.{is_end};
 
 use crate::made;
 use crate::unary::unary_here;
 use cxx_grammar::Arms;
 use cxx_reading::{ExprFault, Reader, expect, optional, sees, span};
+use cxx_tokens::Tokens;
 use cxx_tokens::mark::{COLON, QUESTION};
 use cxx_tree::Expr;
-use parse_chain::climbed;
+use parse_chain::{climbed, operator_at};
 use parse_level::{Deeper, deep_expr};
 
 #[tactic(auto, unfolding(cxx_grammar::specs::Expressions::arms))]
@@ -71,10 +74,10 @@ fn choice_from<D: Deeper>(
     }
 }
 
-/// The rest of an expression that began at `start` with this unary expression.
-#[inline(never)]
+// The rest where it does not end at once. Where expressions nest, this and what calls it have one frame.
+#[inline(always)]
 #[tactic(auto, unfolding(cxx_grammar::specs::Joined::expr_from))]
-pub fn expr_from<D: Deeper>(
+fn longer_from<D: Deeper>(
     reader: &Reader<'_, D>,
     start: u32,
     x: Expr,
@@ -85,6 +88,35 @@ pub fn expr_from<D: Deeper>(
 {
     let (x, at) = climbed(reader, |at| unary_here(reader, at), start, x, at)?;
     choice_from(reader, start, x, at)
+}
+
+// Whether the expression ends at that token: neither a binary operator nor `?` stands there.
+#[inline(always)]
+fn ends(tokens: &Tokens, at: u32) -> bool
+    ensures { result ≡ is_end tokens.now at }
+{
+    match operator_at(tokens, at) {
+        Some(_) => false,
+        None => !sees(tokens, QUESTION, at),
+    }
+}
+
+/// The rest of an expression that began at `start` with this unary expression. Where it ends there, one look tells.
+#[inline(always)]
+#[tactic(auto, using(crate::proofs::Looks::ended))]
+pub fn expr_from<D: Deeper>(
+    reader: &Reader<'_, D>,
+    start: u32,
+    x: Expr,
+    at: u32,
+) -> Result<(Expr, u32), ExprFault>
+    requires { D.ready reader.now.deeper reader.now.tokens.now reader.now.level }
+    ensures { Gives (spec.expr_from reader.now.tokens.now (read reader.now.tokens.now reader.now.level) start x at) result }
+{
+    if ends(reader.tokens, at) {
+        return Ok((x, at));
+    }
+    longer_from(reader, start, x, at)
 }
 
 /// An expression, as the grammar says.

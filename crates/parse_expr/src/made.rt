@@ -25,6 +25,7 @@ fn sizeof_expr(alloc: Global, span: Span, x: Expr) -> Result<Expr, AllocError>
     Ok(Expr::SizeofExpr(span, x))
 }
 
+/// `sizeof` of a type or an expression ([expr.sizeof]), over its span.
 pub fn size_of(alloc: Global, span: Span, operand: SizedOperand) -> Result<Expr, AllocError>
     ensures { IfOk result (λ made. made ≡ sizeof_of operand span) }
 {
@@ -52,6 +53,7 @@ fn boxed_init(alloc: Global, init: Option<NewInit>) -> Result<Option<Boxed<NewIn
     }
 }
 
+/// A `new` ([expr.new]) over its span, with its bound and its initializer where it has them.
 pub fn new(
     alloc: Global,
     span: Span,

@@ -46,6 +46,8 @@ fn init_if_any<D: Deeper>(
     optional(initializer(reader, start), start)
 }
 
+/// The `new` ([expr.new]) that begins at token number `start`, and the number of the token after it: exactly what the grammar gives.
+/// It answers `S1` exactly where none begins, `S2` exactly where it is too deep, or `Memory`.
 #[inline(never)]
 #[tactic(auto, unfolding(cxx_grammar::specs::Unaries::new_form))]
 pub fn new_form<D: Deeper>(reader: &Reader<'_, D>, start: u32) -> Result<(Expr, u32), ExprFault>

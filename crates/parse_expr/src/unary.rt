@@ -17,7 +17,7 @@ use cxx_tokens::keyword::{DELETE, NEW, SIZEOF};
 use cxx_tokens::mark::{LEFT_BRACKET, LEFT_PAREN, REFLECT, RIGHT_BRACKET, RIGHT_PAREN, SCOPE};
 use cxx_tree::Expr;
 use parse_level::{Deeper, deep_sized, deep_type, deep_unary};
-use parse_primary::postfix;
+use parse_primary::{begins_operand, operand, postfix};
 
 #[tactic(auto, unfolding(cxx_grammar::specs::Unaries::empty_brackets))]
 fn empty_brackets(tokens: &Tokens, at: u32) -> Result<u32, ExprFault>
@@ -113,10 +113,10 @@ fn delete_form<D: Deeper>(reader: &Reader<'_, D>, start: u32) -> Result<(Expr, u
     ))
 }
 
-/// A unary expression, as the grammar says.
+// Told by its first token. Each form has a frame of its own, so that this one is small where they nest.
 #[inline(never)]
 #[tactic(auto, using(cxx_grammar::proofs::UnaryArms::unary_arms))]
-pub fn unary_here<D: Deeper>(reader: &Reader<'_, D>, start: u32) -> Result<(Expr, u32), ExprFault>
+fn any_unary<D: Deeper>(reader: &Reader<'_, D>, start: u32) -> Result<(Expr, u32), ExprFault>
     requires { D.ready reader.now.deeper reader.now.tokens.now reader.now.level }
     ensures { Gives (spec.unary reader.now.tokens.now (read reader.now.tokens.now reader.now.level) start) result }
 {
@@ -147,5 +147,19 @@ pub fn unary_here<D: Deeper>(reader: &Reader<'_, D>, start: u32) -> Result<(Expr
         Some(Seen::Character) => postfix(reader, start),
         Some(Seen::Text) => postfix(reader, start),
         None => postfix(reader, start),
+    }
+}
+
+/// A unary expression, as the grammar says. An integer or a name alone is read at once.
+#[inline(always)]
+#[tactic(auto, using(crate::proofs::Looks::unary_operand))]
+pub fn unary_here<D: Deeper>(reader: &Reader<'_, D>, start: u32) -> Result<(Expr, u32), ExprFault>
+    requires { D.ready reader.now.deeper reader.now.tokens.now reader.now.level }
+    ensures { Gives (spec.unary reader.now.tokens.now (read reader.now.tokens.now reader.now.level) start) result }
+{
+    if begins_operand(reader.tokens, start) {
+        operand(reader.alloc, reader.tokens, start)
+    } else {
+        any_unary(reader, start)
     }
 }

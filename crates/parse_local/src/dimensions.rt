@@ -6,7 +6,7 @@ ghost use Rattle.cxx_grammar.specs.Read.{read};
 ghost use Rattle.cxx_reading.specs.Reading.{Gives};
 
 use containers::Items;
-use cxx_reading::{ExprFault, expect, span};
+use cxx_reading::{ExprFault, expect, sees, span};
 use cxx_tokens::mark::{LEFT_BRACKET, RIGHT_BRACKET};
 use cxx_tree::{BoundTree, Expr};
 use parse_expr::expression;
@@ -51,8 +51,21 @@ impl Part for Bound<'_> {
 
 /// The bounds, of which there may be none, that begin at token number `at`, and the number of the token after them. It
 /// answers `S2` exactly where the grammar says that they are too deep, or `Memory`.
-#[tactic(auto, unfolding(cxx_grammar::specs::Locals::bounds))]
+#[inline(always)]
+#[tactic(auto, using(crate::proofs::Looks::no_bounds))]
 pub fn bounds(here: &Here<'_>, at: u32) -> Result<(Items<BoundTree>, u32), ExprFault>
+    ensures { Gives (spec.bounds here.now.tokens.now here.now.level [] at) result }
+{
+    if sees(here.tokens, LEFT_BRACKET, at) {
+        some_bounds(here, at)
+    } else {
+        Ok((Items::new(here.alloc), at))
+    }
+}
+
+#[inline(never)]
+#[tactic(auto, unfolding(cxx_grammar::specs::Locals::bounds))]
+fn some_bounds(here: &Here<'_>, at: u32) -> Result<(Items<BoundTree>, u32), ExprFault>
     ensures { Gives (spec.bounds here.now.tokens.now here.now.level [] at) result }
 {
     many(

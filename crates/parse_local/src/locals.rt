@@ -24,7 +24,8 @@ pub struct Declared {
     pub name: Identifier,
 }
 
-/// The rest of a declaration that began at `start`.
+/// The rest of a declaration that began at token number `start`, from its bounds at `at` on, and the number of the token after it:
+/// exactly what the grammar gives. It answers `S1` exactly where none goes on so, `S2` exactly where it is too deep, or `Memory`.
 #[tactic(auto, unfolding(crate::specs::Joined::local_rest))]
 pub fn local_rest(
     here: &Here<'_>,
@@ -49,7 +50,8 @@ pub fn local_rest(
     allowed(holds, tree, end)
 }
 
-/// The declaration of a local variable, as the grammar says.
+/// The declaration of a local variable ([stmt.dcl]) that begins at token number `start`, and the number of the token after it:
+/// exactly what the grammar gives. It answers `S1` exactly where none begins, `S2` exactly where it is too deep, or `Memory`.
 #[tactic(auto, unfolding(cxx_grammar::specs::Locals::local, crate::specs::Joined::local_rest))]
 pub fn local(here: &Here<'_>, start: u32) -> Result<(LocalTree, u32), ExprFault>
     ensures { Gives (spec.local here.now.tokens.now here.now.level start) result }

@@ -78,7 +78,8 @@ fn some_bases(here: &Here<'_>, start: u32) -> Result<(Items<BaseTree>, u32), Exp
     comma_list(here.alloc, here.tokens, &one, at)
 }
 
-/// The base classes behind the name of a class, or none.
+/// The base classes behind the name of a class ([class.derived]), or none, and the number of the token after them: exactly what
+/// the grammar gives. It answers `S2` exactly where one is too deep, or `Memory`.
 #[tactic(auto, unfolding(cxx_grammar::specs::Classes::bases), using(cxx_reading::proofs::Answers::any_left))]
 pub fn bases(here: &Here<'_>, start: u32) -> Result<(Items<BaseTree>, u32), ExprFault>
     ensures { Gives (spec.bases here.now.tokens.now here.now.level start) result }

@@ -99,7 +99,8 @@ impl Part for Underlying<'_> {
     }
 }
 
-/// An enumeration with its enumerators.
+/// The enumeration with its enumerators ([dcl.enum]) that begins at token number `start`, and the number of the token after it:
+/// exactly what the grammar gives. It answers `S1` exactly where none begins, `S2` exactly where it is too deep, or `Memory`.
 #[tactic(auto, unfolding(cxx_grammar::specs::Declarations::enumeration))]
 pub fn enumeration(here: &Here<'_>, start: u32) -> Result<(EnumTree, u32), ExprFault>
     ensures { Gives (spec.enumeration here.now.tokens.now here.now.level start) result }

@@ -64,7 +64,8 @@ fn some_inits(here: &Here<'_>, start: u32) -> Result<(Items<MemberInit>, u32), E
     comma_list(here.alloc, here.tokens, &one, at)
 }
 
-/// The member initializers of a constructor, or none.
+/// The member initializers of a constructor ([class.base.init]), or none, and the number of the token after them: exactly what
+/// the grammar gives. It answers `S2` exactly where one is too deep, or `Memory`.
 #[tactic(auto, unfolding(cxx_grammar::specs::Classes::member_inits), using(cxx_reading::proofs::Answers::any_left))]
 pub fn member_inits(here: &Here<'_>, start: u32) -> Result<(Items<MemberInit>, u32), ExprFault>
     ensures { Gives (spec.member_inits here.now.tokens.now here.now.level start) result }

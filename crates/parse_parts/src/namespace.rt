@@ -33,7 +33,8 @@ fn namespace_named(here: &Here<'_>, start: u32) -> Result<(NamespaceNamed, u32),
     longer(namespace_name(here, start), namespace_splice(here, start))
 }
 
-/// A namespace alias.
+/// The namespace alias ([namespace.alias]) that begins at token number `start`, and the number of the token after it: exactly what
+/// the grammar gives. It answers `S1` exactly where none begins, `S2` exactly where it is too deep, or `Memory`.
 #[tactic(auto, unfolding(cxx_grammar::specs::Declarations::namespace_alias))]
 pub fn namespace_alias(here: &Here<'_>, start: u32) -> Result<(NamespaceAliasTree, u32), ExprFault>
     ensures { Gives (spec.namespace_alias here.now.tokens.now here.now.level start) result }

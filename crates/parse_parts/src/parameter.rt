@@ -38,7 +38,8 @@ impl Part for Parameter<'_> {
     }
 }
 
-/// Parameters with the parentheses around them.
+/// The parameters with the parentheses around them ([dcl.fct]) that begin at token number `start`, and the number of the token after
+/// them: exactly what the grammar gives. It answers `S1` exactly where none begin, `S2` exactly where they are too deep, or `Memory`.
 #[tactic(auto, unfolding(cxx_grammar::specs::Declarations::parameters, cxx_grammar::specs::Declarations::parameters_if_any, cxx_grammar::specs::Declarations::some_parameters, cxx_grammar::specs::Declarations::more_parameters))]
 pub fn parameters(here: &Here<'_>, start: u32) -> Result<(Items<ParameterTree>, u32), ExprFault>
     ensures { Gives (spec.parameters here.now.tokens.now here.now.level start) result }

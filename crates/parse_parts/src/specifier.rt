@@ -24,7 +24,8 @@ fn specifier(tokens: &Tokens, found: DeclWords, start: u32) -> Result<(DeclWords
     }
 }
 
-/// Any number of specifiers, added to those found.
+/// Any number of specifiers ([dcl.spec]) from token number `at` on, added to those found, and the number of the token after them:
+/// exactly what the grammar gives. It has no fault but `S1`.
 #[tactic(auto, unfolding(cxx_grammar::specs::Declarations::specifiers), using(cxx_reading::proofs::Turns::loops))]
 pub fn specifiers(
     tokens: &Tokens,
@@ -64,7 +65,7 @@ fn constructor_word(
     }
 }
 
-/// The same where `explicit` may stand too.
+/// The same where `explicit` may stand too ([dcl.fct.spec]).
 #[tactic(auto, unfolding(cxx_grammar::specs::Declarations::constructor_words), using(cxx_reading::proofs::Turns::loops))]
 pub fn constructor_words(
     tokens: &Tokens,
@@ -88,7 +89,8 @@ pub fn constructor_words(
     Ok((found, at))
 }
 
-/// `struct` or `class`.
+/// `struct` or `class` ([class.pre]) at token number `start`, and the number of the token after it. It answers `S1` exactly where
+/// neither stands there, and nothing else.
 #[tactic(auto, unfolding(cxx_grammar::specs::Declarations::key))]
 pub fn key(tokens: &Tokens, start: u32) -> Result<(ClassKey, u32), ExprFault>
     ensures gives { Gives (spec.key tokens.now start) result }
@@ -101,7 +103,8 @@ pub fn key(tokens: &Tokens, start: u32) -> Result<(ClassKey, u32), ExprFault>
     }
 }
 
-/// `public`, `protected` or `private`.
+/// `public`, `protected` or `private` ([class.access]) at token number `start`, and the number of the token after it. It answers `S1`
+/// exactly where none of them stands there, and nothing else.
 #[tactic(auto, unfolding(cxx_grammar::specs::Classes::access))]
 pub fn access(tokens: &Tokens, start: u32) -> Result<(Access, u32), ExprFault>
     ensures gives { Gives (classes.access tokens.now start) result }

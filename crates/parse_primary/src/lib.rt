@@ -8,9 +8,11 @@ mod atoms;
 mod brackets;
 mod init;
 mod made;
+mod operands;
 mod primaries;
 mod suffixes;
 
 pub use init::initializer;
 pub use made::typename_made;
+pub use operands::{begins_operand, operand};
 pub use suffixes::{postfix, postfix_from};

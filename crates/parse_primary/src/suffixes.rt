@@ -4,7 +4,7 @@ ghost use Rattle.std.specs.Prelude.{◌≡◌};
 ghost use Rattle.cxx_grammar.specs.Joined as joined;
 ghost use Rattle.cxx_grammar.specs.Postfixes as spec;
 ghost use Rattle.cxx_grammar.specs.Read.{read};
-ghost use Rattle.cxx_reading.specs.Reading.{Gives, kind};
+ghost use Rattle.cxx_reading.specs.Reading.{Gives};
 
 use crate::made;
 use crate::primaries::primary;
@@ -146,13 +146,14 @@ fn suffixes<D: Deeper>(
     )
 }
 
-// Whether a suffix may begin there.
-fn begins_suffix(tokens: &Tokens, at: u32) -> bool
-    ensures { result ≡ joined.begins_suffix (kind tokens.now at) }
+/// Whether a suffix begins with such a token.
+#[inline(always)]
+pub fn begins_suffix(kind: Option<Seen>) -> bool
+    ensures { result ≡ joined.begins_suffix kind }
 {
-    match kind_at(tokens, at) {
+    match kind {
         Some(Seen::Punctuator(mark)) => {
-            mark == LEFT_PAREN || mark == LEFT_BRACKET || mark == DOT || mark == ARROW
+            mark == LEFT_PAREN || (mark == LEFT_BRACKET || (mark == DOT || mark == ARROW))
         }
         _ => false,
     }
@@ -186,7 +187,7 @@ pub fn postfix_from<D: Deeper>(
     requires { D.ready reader.now.deeper reader.now.tokens.now reader.now.level }
     ensures { Gives (joined.postfix_from reader.now.tokens.now (read reader.now.tokens.now reader.now.level) start x at) result }
 {
-    if begins_suffix(reader.tokens, at) {
+    if begins_suffix(kind_at(reader.tokens, at)) {
         with_suffixes(reader, start, x, at)
     } else {
         Ok((x, at))

@@ -1,12 +1,12 @@
 //! Names ([expr.prim.id]).
 
-ghost use Rattle.std.specs.Prelude.{◌≡◌, IfErr};
+ghost use Rattle.std.specs.Prelude.{◌≡◌, [], IfErr};
 ghost use Rattle.cxx_grammar.specs.Names as spec;
 ghost use Rattle.cxx_reading.specs.Reading.{Gives, Steps};
 
 use containers::Items;
 use cxx_base::library::{STD, VECTOR};
-use cxx_reading::{ExprFault, eat, expect, identifier, repeat, span};
+use cxx_reading::{ExprFault, eat, expect, identifier, repeat, sees, span};
 use cxx_tokens::Tokens;
 use cxx_tokens::mark::{LESS, SCOPE};
 use cxx_tree::{Identifier, NameTree};
@@ -46,6 +46,7 @@ pub fn part(tokens: &Tokens, at: u32) -> Result<(Identifier, u32), ExprFault>
 }
 
 /// Further parts of a name, each behind `::`, added to those found.
+#[inline(never)]
 #[tactic(auto, unfolding(cxx_grammar::specs::Names::parts))]
 pub fn parts(
     alloc: Global,
@@ -58,13 +59,30 @@ pub fn parts(
     repeat(alloc, tokens, |at| part(tokens, at), found, at)
 }
 
+// The parts behind the first. Mostly there are none, which one look tells.
+#[inline(always)]
+#[tactic(auto, using(crate::proofs::Looks::no_parts))]
+fn more_parts(
+    alloc: Global,
+    tokens: &Tokens,
+    at: u32,
+) -> Result<(Items<Identifier>, u32), ExprFault>
+    ensures { Gives (spec.parts tokens.now [] at) result }
+{
+    if sees(tokens, SCOPE, at) {
+        parts(alloc, tokens, Items::new(alloc), at)
+    } else {
+        Ok((Items::new(alloc), at))
+    }
+}
+
 #[tactic(auto, unfolding(cxx_grammar::specs::Names::any_name))]
 fn any_name(alloc: Global, tokens: &Tokens, start: u32) -> Result<(NameTree, u32), ExprFault>
     ensures { Gives (spec.any_name tokens.now start) result }
 {
     let (rooted, at) = eat(tokens, SCOPE, start);
     let (first, at) = identifier(tokens, at)?;
-    let (more, end) = parts(alloc, tokens, Items::new(alloc), at)?;
+    let (more, end) = more_parts(alloc, tokens, at)?;
     let span = span(tokens, start, end);
     Ok((
         NameTree {

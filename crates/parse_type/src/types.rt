@@ -1,5 +1,6 @@
 //! Types ([dcl.name]) and splices (P2996R13).
 
+ghost use Rattle.std.specs.Prelude.{[]};
 ghost use Rattle.cxx_grammar.specs.Read.{read};
 ghost use Rattle.cxx_grammar.specs.Types as spec;
 ghost use Rattle.cxx_reading.specs.Reading.{Gives};
@@ -8,7 +9,7 @@ use crate::fundamental::fund;
 use crate::names::{name, vector_head};
 use containers::{Boxed, Items};
 use cxx_reading::{
-    ExprFault, Reader, Seen, eat, eat_word, expect, expect_word, kind_at, repeat, span,
+    ExprFault, Reader, Seen, eat, eat_word, expect, expect_word, kind_at, repeat, sees, span,
 };
 use cxx_tokens::Tokens;
 use cxx_tokens::keyword::{CONST, TYPENAME};
@@ -26,6 +27,7 @@ fn pointer(tokens: &Tokens, at: u32) -> Result<(bool, u32), ExprFault>
 }
 
 /// The marks of pointers behind a type, added to those found.
+#[inline(never)]
 #[tactic(auto, unfolding(cxx_grammar::specs::Types::pointers))]
 pub fn pointers(
     alloc: Global,
@@ -36,6 +38,19 @@ pub fn pointers(
     ensures { Gives (spec.pointers tokens.now found at) result }
 {
     repeat(alloc, tokens, |at| pointer(tokens, at), found, at)
+}
+
+// The same from none. Mostly there are none, which one look tells.
+#[inline(always)]
+#[tactic(auto, using(crate::proofs::Looks::no_pointers))]
+fn all_pointers(alloc: Global, tokens: &Tokens, at: u32) -> Result<(Items<bool>, u32), ExprFault>
+    ensures { Gives (spec.pointers tokens.now [] at) result }
+{
+    if sees(tokens, STAR, at) {
+        pointers(alloc, tokens, Items::new(alloc), at)
+    } else {
+        Ok((Items::new(alloc), at))
+    }
 }
 
 #[tactic(auto, unfolding(cxx_grammar::specs::Types::basic_fund))]
@@ -102,8 +117,9 @@ fn basic_typename<D: Deeper>(
     ))
 }
 
+#[inline(never)]
 #[tactic(auto, using(cxx_grammar::proofs::TypeArms::basic_arms))]
-fn basic<D: Deeper>(reader: &Reader<'_, D>, start: u32) -> Result<(BasicTree, u32), ExprFault>
+fn any_basic<D: Deeper>(reader: &Reader<'_, D>, start: u32) -> Result<(BasicTree, u32), ExprFault>
     requires { D.ready reader.now.deeper reader.now.tokens.now reader.now.level }
     ensures { Gives (spec.basic reader.now.tokens.now (read reader.now.tokens.now reader.now.level) start) result }
 {
@@ -127,6 +143,25 @@ fn basic<D: Deeper>(reader: &Reader<'_, D>, start: u32) -> Result<(BasicTree, u3
     }
 }
 
+// The same, where the words of a fundamental type are read at once.
+#[inline(always)]
+#[tactic(auto, using(cxx_grammar::proofs::TypeArms::basic_arms))]
+fn basic<D: Deeper>(reader: &Reader<'_, D>, start: u32) -> Result<(BasicTree, u32), ExprFault>
+    requires { D.ready reader.now.deeper reader.now.tokens.now reader.now.level }
+    ensures { Gives (spec.basic reader.now.tokens.now (read reader.now.tokens.now reader.now.level) start) result }
+{
+    match kind_at(reader.tokens, start) {
+        Some(Seen::Word(word)) => {
+            if word == TYPENAME {
+                any_basic(reader, start)
+            } else {
+                basic_fund(reader.tokens, start)
+            }
+        }
+        _ => any_basic(reader, start),
+    }
+}
+
 /// A type, as the grammar says.
 #[inline(never)]
 #[tactic(auto, unfolding(cxx_grammar::specs::Types::type_tree))]
@@ -140,7 +175,7 @@ pub fn type_tree<D: Deeper>(
     let (before, at) = eat_word(reader.tokens, CONST, start);
     let (basic, at) = basic(reader, at)?;
     let (after, at) = eat_word(reader.tokens, CONST, at);
-    let (pointers, at) = pointers(reader.alloc, reader.tokens, Items::new(reader.alloc), at)?;
+    let (pointers, at) = all_pointers(reader.alloc, reader.tokens, at)?;
     let (reference, end) = eat(reader.tokens, AMPERSAND, at);
     let span = span(reader.tokens, start, end);
     Ok((

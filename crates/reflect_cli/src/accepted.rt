@@ -77,17 +77,35 @@ fn multiplicative_link(operation: &Operation) -> Option<Link<Literal>>
     }
 }
 
+// The links so far. Where there are none, the first of so many is at hand, since the operations of a chain are of one line.
+fn with_room(
+    alloc: Global,
+    found: Items<Link<Literal>>,
+    count: usize,
+) -> Result<Items<Link<Literal>>, Memory>
+    ensures { IfOk result (λ after. after ≡ found) }
+{
+    if found.is_empty() {
+        Ok(Items::from_vec(Vec::with_capacity(alloc, count)?))
+    } else {
+        Ok(found)
+    }
+}
+
 fn multiplicative_links(
     alloc: Global,
     operations: &[Operation],
 ) -> Result<Option<Items<Link<Literal>>>, Memory>
     ensures { IfOk result (λ found. found ≡ spec.all_of (spec.link spec.multiplicative spec.literal) [] operations.now) }
 {
-    let mut found = Items::from_vec(Vec::with_capacity(alloc, operations.len())?);
+    let mut found = Items::new(alloc);
     let mut rest = operations;
     while let Some((operation, more)) = rest.split_first() {
         match multiplicative_link(operation) {
-            Some(link) => found.push(link)?,
+            Some(link) => {
+                found = with_room(alloc, found, rest.len())?;
+                found.push(link)?;
+            }
             None => return Ok(None),
         }
         rest = more;

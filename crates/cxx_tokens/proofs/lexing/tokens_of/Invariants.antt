@@ -10,10 +10,10 @@ use Rattle.cxx_tokens.proofs.lexing.tokens_of.Given as goal
 abbrev pub invariant-loop-rest : goal.invariant-loop-rest
 invariant-loop-rest l = record {
   utf8 : shadow (Utf8 l.rest);
-  same : lexed_on l.list l.at l.names (chars l.rest) ≡ lex_characters l.fn.names (chars l.text);
+  same : lexed_on l.list.items l.at l.names (chars l.rest) ≡ lex_characters l.fn.names (chars l.text);
   kept : Keeps l.fn.names l.names;
   few : length l.names + length (chars l.rest) ≤ length l.fn.names + length (chars l.text);
-  short : length l.list + length (chars l.rest) ≤ length (chars l.text);
+  short : length l.list.items + length (chars l.rest) ≤ length (chars l.text);
   line : l.at.place.line + length (chars l.rest) ≤ 1 + length (chars l.text);
   column : l.at.place.column + length (chars l.rest) ≤ 1 + length (chars l.text);
 }

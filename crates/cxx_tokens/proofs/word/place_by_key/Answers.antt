@@ -7,10 +7,10 @@ use Rattle.cxx_tokens.proofs.word.place_by_key.Goals as goal
 pub returns-then-key-places : goal.returns-then-key-places
 returns-then-key-places c =
     let place : c.from.result ≡ get_or BY_KEY (key c.args.text.now) 0 =
-    c.from.ensures ∙ ap (λ places. get_or places c.key-key.result 0) c.requires.places ∙ ap (λ k. get_or BY_KEY k 0) c.key-key.ensures.key in
+    c.from.ensures ∙ ap (λ places. get_or places c.args.key 0) c.requires.places ∙ ap (λ k. get_or BY_KEY k 0) c.requires.key in
     c.word_at.ensures ∙ found_by_key c.args.words.now c.requires.words c.args.text.now _ place
 
 pub returns-else-key-places : goal.returns-else-key-places
 returns-else-key-places c =
     let all = ap length c.requires.places in
-    absurd (omega (arith, all, c.key-key.ensures.small, c.if-key-places.false))
+    absurd (omega (arith, all, c.requires.small, c.if-key-places.false))

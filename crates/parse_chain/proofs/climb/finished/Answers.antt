@@ -1,10 +1,9 @@
-use Rattle.parse_chain.proofs.Placing.{end_by, finished_by}
+use Rattle.std.proofs.lemmas.Result.{IfOk-weaker}
+use Rattle.parse_chain.specs.Chains.{all}
+use Rattle.parse_chain.proofs.Placing.{finishes_within}
 use Rattle.parse_chain.proofs.climb.finished.Goals as goal
 
-pub loop-chain-preserved : goal.loop-chain-preserved
-loop-chain-preserved c = end_by c.args.tokens.now c.args.at c.args.chains c.args.start c.args.x
-    c.loop-chain.chains c.pop.new.self c.in-Some.chain c.loop-chain.start c.loop-chain.x c.in_ok-x.x c.loop-chain.invariant c.in-Some.ensures c.in_ok-x.ensures
-
 pub returns : goal.returns
-returns c = finished_by c.args.tokens.now c.args.at c.args.chains c.args.start c.args.x
-    c.loop-chain.chains c.loop-chain.start c.loop-chain.x c.loop-chain.invariant c.in_default.ensures.0
+returns c = λ start. IfOk-weaker c.ended.result _ _
+    (λ made f. finishes_within c.args.tokens.now c.args.at (all c.args.chains) c.parts-outer.result.0 c.parts-outer.result.1 start c.args.x c.in_ok-x.x made c.parts-outer.ensures c.in_ok-x.ensures f)
+    c.ended.ensures

@@ -1,29 +1,39 @@
-use Rattle.std.proofs.Common.{arith}
+use Rattle.std.proofs.Common.{◌∷◌, ◌++◌, [], refl, arith}
 use Rattle.std.proofs.lemmas.Result.{IfOk-weaker}
-use Rattle.parse_chain.proofs.Placing.{at_first, turn_by, goes_by, begins_by, begins_first}
+use Rattle.parse_chain.specs.Chains.{all}
+use Rattle.parse_chain.proofs.Placing.{at_first, turn_by, turn_within, goes_by, begins_by, begins_first}
 use Rattle.parse_chain.proofs.climb.placed.Goals as goal
 
-pub loop-chain-init : goal.loop-chain-init
-loop-chain-init c = at_first c.args.tokens.now c.args.at c.args.operator c.requires.there c.args.chains c.args.start c.args.x
+pub loop-inner-init : goal.loop-inner-init
+loop-inner-init c = turn_within c.args.tokens.now c.args.at c.args.operator c.requires.there (all c.args.chains) c.args.start c.args.x
+    (all c.args.chains) c.parts-outer.result.0 c.parts-outer.result.1 c.args.start c.args.x
+    (at_first c.args.tokens.now c.args.at c.args.operator c.requires.there (all c.args.chains) c.args.start c.args.x) c.parts-outer.ensures
 
-pub returns-then-chain-operator : goal.returns-then-chain-operator
-returns-then-chain-operator c = IfOk-weaker c.begun.result _ _
-    (λ after made. begins_by c.args.tokens.now c.args.at c.args.operator c.requires.there c.args.chains c.args.start c.args.x
-    c.loop-chain.chains c.pop.new.self c.push.new.self after c.in-Some.chain c.loop-chain.start c.loop-chain.x c.loop-chain.invariant c.in-Some.ensures c.in_ok-push.ensures.ok made c.if-chain-operator.true)
+pub loop-inner-preserved : goal.loop-inner-preserved
+loop-inner-preserved c = turn_within c.args.tokens.now c.args.at c.args.operator c.requires.there (all c.args.chains) c.args.start c.args.x
+    c.loop-inner.outer c.pop.new.self c.in-Some.chain c.loop-inner.inner.start c.in_ok-x.x
+    (turn_by c.args.tokens.now c.args.at c.args.operator c.requires.there (all c.args.chains) c.args.start c.args.x
+    (c.loop-inner.outer ++ c.loop-inner.inner ∷ []) c.loop-inner.outer c.loop-inner.inner c.loop-inner.start c.loop-inner.x c.in_ok-x.x c.loop-inner.invariant refl c.in_ok-x.ensures (omega arith))
+    c.in-Some.ensures
+
+pub returns-in-None : goal.returns-in-None
+returns-in-None c = IfOk-weaker c.begun.result _ _
+    (λ after made. begins_first c.args.tokens.now c.args.at c.args.operator c.requires.there (all c.args.chains) c.args.start c.args.x
+    c.loop-inner.outer c.pop.new.self (all after) c.loop-inner.inner.start c.in_ok-x.x
+    (turn_by c.args.tokens.now c.args.at c.args.operator c.requires.there (all c.args.chains) c.args.start c.args.x
+    (c.loop-inner.outer ++ c.loop-inner.inner ∷ []) c.loop-inner.outer c.loop-inner.inner c.loop-inner.start c.loop-inner.x c.in_ok-x.x c.loop-inner.invariant refl c.in_ok-x.ensures (omega arith))
+    c.in-None.ensures.0 c.in-None.ensures.1 made c.requires.line)
     c.begun.ensures
 
-pub returns-then-chain-operator-2 : goal.returns-then-chain-operator-2
-returns-then-chain-operator-2 c = IfOk-weaker c.gone_on.result _ _
-    (λ after made. goes_by c.args.tokens.now c.args.at c.args.operator c.requires.there c.args.chains c.args.start c.args.x
-    c.loop-chain.chains c.pop.new.self after c.in-Some.chain c.loop-chain.start c.loop-chain.x c.loop-chain.invariant c.in-Some.ensures made (omega arith))
+pub returns-then-inner-operator : goal.returns-then-inner-operator
+returns-then-inner-operator c = IfOk-weaker c.gone_on.result _ _
+    (λ after made. goes_by c.args.tokens.now c.args.at c.args.operator c.requires.there (all c.args.chains) c.args.start c.args.x
+    (c.loop-inner.outer ++ c.loop-inner.inner ∷ []) c.loop-inner.outer (all after) c.loop-inner.inner c.loop-inner.start c.loop-inner.x c.loop-inner.invariant refl made (omega arith))
     c.gone_on.ensures
 
-pub loop-chain-preserved : goal.loop-chain-preserved
-loop-chain-preserved c = turn_by c.args.tokens.now c.args.at c.args.operator c.requires.there c.args.chains c.args.start c.args.x
-    c.loop-chain.chains c.pop.new.self c.in-Some.chain c.loop-chain.start c.loop-chain.x c.in_ok-x.x c.loop-chain.invariant c.in-Some.ensures c.in_ok-x.ensures (omega arith)
-
-pub returns : goal.returns
-returns c = IfOk-weaker c.begun-2.result _ _
-    (λ after made. begins_first c.args.tokens.now c.args.at c.args.operator c.requires.there c.args.chains c.args.start c.args.x
-    c.loop-chain.chains c.pop.new.self after c.loop-chain.start c.loop-chain.x c.loop-chain.invariant c.in_default.ensures.0 c.in_default.ensures.1 made c.requires.line)
-    c.begun-2.ensures
+pub returns-else-inner-operator : goal.returns-else-inner-operator
+returns-else-inner-operator c = IfOk-weaker c.begun_within.result _ _
+    (λ after made. begins_by c.args.tokens.now c.args.at c.args.operator c.requires.there (all c.args.chains) c.args.start c.args.x
+    (c.loop-inner.outer ++ c.loop-inner.inner ∷ []) c.loop-inner.outer (c.loop-inner.outer ++ c.loop-inner.inner ∷ []) (all after)
+    c.loop-inner.inner c.loop-inner.start c.loop-inner.x c.loop-inner.invariant refl refl made (omega arith))
+    c.begun_within.ensures
