@@ -1,6 +1,7 @@
 pub mod Loans
 pub mod PieceWork
 pub mod Searched
+pub mod Looked
 pub mod HandEnds
 pub mod HandLists
 pub mod ReadlessFacts

@@ -1,5 +1,5 @@
 -- The work on one piece: what the seat holds, and what its task has taken.
-use Rattle.std.proofs.Common.{◌≡◌, ◌≢◌, ℕ, suc, ◌+◌, ◌<◌, ◌≤◌, List, [], ◌∷◌, ◌++◌, length, length-append, sym, refl, ap, ◌∙◌, subst, arith, ⊎_elim, Option, Some, IsSome}
+use Rattle.std.proofs.Common.{◌≡◌, ◌≢◌, ℕ, suc, ◌+◌, ◌<◌, ◌≤◌, List, [], ◌∷◌, ◌++◌, length, length-append, append_assoc, append-nil, sym, refl, ap, ◌∙◌, subst, arith, inl, inr, ⊎_elim, Option, None, Some, IsSome, Result, Ok, Err, OnErr}
 use mathlib.Core.Logic.{dite}
 use native.Mathlib.Decide.{dec_lt}
 use Rattle.cxx_base.specs.declared.number.PieceNo.{PieceNo}
@@ -14,12 +14,31 @@ use Rattle.board_rule.specs.Standing.{next_read, steps_at, taken_at}
 use Rattle.board_rule.specs.Views.{hold_on, without, Knows}
 use Rattle.board_rule.specs.declared.view.Hold.{Hold}
 use Rattle.board_rule.specs.declared.view.View.{View}
+use Rattle.board_rule.specs.Plays.{CanPark}
 use Rattle.board_rule.specs.declared.view.Entry.{Entry}
+use Rattle.board_rule.specs.declared.view.Entry.TheVariants.{Settles, Parks}
 use Rattle.board_rule.proofs.Maps.{by_same}
 use Rattle.settle_board.specs.Boards.{IsIdle, HasSeen}
 use Rattle.settle_board.specs.Changes.{Becomes}
 use Rattle.settle_board.proofs.Callers.{held_first, held_some, one_hold, none_left, knows_taken, seen_all}
-use Rattle.board_callers.specs.Holding.{HoldsOnly, HasTaken, IsClaimedFor, IsSameHand}
+use Rattle.piece_search.specs.TurnParts.{SeesUnsettled, ParksOn}
+use Rattle.piece_search.proofs.TurnParts.{within_itself, within_right, unsettled_left, unsettled_right}
+use Rattle.board_callers.specs.Holding.{HoldsOnly, HasTaken, IsClaimedFor, Grows, WorkSays}
+
+-- the seat holds what it held, has nothing lent, and knows of each piece that it saw settled
+abbrev pub IsSameHand : {X T : Type 0} → View X T → View X T → Type 0
+IsSameHand v w = (w.held ≡ v.held) × (w.lent ≡ None) × ((i : ℕ) → IsAmong i v.seen → IsAmong i w.seen)
+
+pub same_hand : {X T : Type 0} (v w : View X T) (part : List (Entry T)) → Becomes v.held None 0 part v w → IsSameHand v w
+same_hand v w part b = (b.holds, b.loan, b.knows.1)
+
+-- the trail, as it grows
+module _ {X T : Type 0} where
+  pub grows_none : (v : View X T) → Grows v v
+  grows_none v = ([], sym (append-nil v.trail))
+
+  pub grows_more : (u v w : View X T) (part : List (Entry T)) → Grows u v → w.trail ≡ v.trail ++ part → Grows u w
+  grows_more u v w part g e = (g.0 ++ part, e ∙ (ap (λ t. t ++ part) g.1 ∙ append_assoc u.trail g.0 part))
 
 abbrev pub hold_of : {T : Type 0} → ℕ → Option T → Hold T
 hold_of k claimed = record { piece = k; claimed = claimed }
@@ -97,6 +116,11 @@ module _ {X T O : Type 0} (m : Meant T O) (k : ℕ) where
   pub saw_taken : (taken : List (ℕ × O)) (n : ℕ) (v : View X T) → n ≡ length taken → HasTaken m k taken v → HasSeen m k n v
   saw_taken taken n v e t = subst (λ (i : ℕ). HasSeen m k i v) (sym e) (seen_all m k (length taken) v t.seen)
 
+-- what holds whatever was answered holds of an error
+pub on_error : {A E : Type 0} (P : Type 0) (r : Result A E) → P → OnErr r P
+on_error P (Ok a) h = tt
+on_error P (Err e) h = h
+
 -- what is known by the meaning of the board is known by an equal one
 module _ {X T O : Type 0} (meant : X → Meant T O) where
   pub is_claimed_at : (k : ℕ) (claimed : Option T) (x y : X) → x ≡ y → IsClaimedFor (meant y) k claimed → IsClaimedFor (meant x) k claimed
@@ -107,3 +131,36 @@ module _ {X T O : Type 0} (meant : X → Meant T O) where
 
   pub taken_count : (t : T) (x y : X) → x ≡ y → (n : ℕ) → (meant x).taken t ≡ n → (meant y).taken t ≡ n
   taken_count t x y e n h = subst (λ (z : X). (meant z).taken t ≡ n) e h
+
+-- what the work on a piece came to
+module _ {X T O : Type 0} (m : Meant T O) (k : ℕ) where
+  pub says_settled : (u v w : View X T) (held : List (Hold T)) (lent : Option ℕ) (steps : ℕ) → Grows u v → Becomes held lent steps (Settles k ∷ []) v w → IsIdle w → WorkSays m k u w
+  unfolding grows_more
+  says_settled u v w held lent steps g b idle = let part = Settles k ∷ [] in let more = grows_more u v w part g b.trail in (idle, more.0, more.1, inl (within_right part g.0 part (within_itself part)))
+
+  pub says_parked : (u v x w : View X T) (q : List (Entry T)) (on : ℕ) (t : T) (held : List (Hold T)) (lent : Option ℕ) (steps : ℕ) → on ≡ next_read m k (m.taken t)
+      → Grows u v → SeesUnsettled on q → Becomes v.held None 0 q v x → Becomes held lent steps (Parks k (8 + on) t ∷ []) x w → CanPark m k t → ((i : ℕ) → i < m.taken t → IsAmong (next_read m k i) x.seen)
+      → IsIdle w → WorkSays m k u w
+  unfolding grows_more
+  says_parked u v x w q on t held lent steps e g sees b d can seen idle = let part = Parks k (8 + on) t ∷ [] in let a = grows_more u v x q g b.trail in let more = grows_more u x w part a d.trail in (
+    idle,
+    more.0,
+    more.1,
+    inr (
+      t,
+      can,
+      subst (λ (z : ℕ). ParksOn k z t more.0) e (within_right part a.0 part (within_itself part)),
+      subst (λ (z : ℕ). SeesUnsettled z more.0) e (unsettled_left on a.0 part (unsettled_right on g.0 q sees)),
+      λ i l. d.knows.1 (next_read m k i) (seen i l),
+    ),
+  )
+
+  -- it began later
+  pub says_later : (u v w : View X T) (p : List (Entry T)) → v.trail ≡ u.trail ++ p → WorkSays m k v w → WorkSays m k u w
+  says_later u v w p e h = let q = h.1 in (
+    h.0,
+    p ++ q,
+    h.2 ∙ (ap (λ t. t ++ q) e ∙ append_assoc u.trail p q),
+    ⊎_elim (λ s. inl (within_right (Settles k ∷ []) p q s))
+        (λ s. let on = next_read m k (m.taken s.0) in inr (s.0, s.1, within_right (Parks k (8 + on) s.0 ∷ []) p q s.2, unsettled_right on p q s.3, s.4)) h.3,
+  )

@@ -13,8 +13,8 @@ use Rattle.settle_board.proofs.Callers.{claim_starts, claim_resumes}
 use Rattle.piece_search.specs.FoundSays.{FoundSays}
 use Rattle.piece_search.specs.declared.searching.Found.TheVariants.{Fresh, Parked, Nothing}
 use Rattle.piece_search.proofs.TurnParts.{nth_inside}
-use Rattle.board_callers.specs.Holding.{HoldsOnly, IsClaimedFor}
-use Rattle.board_callers.proofs.PieceWork.{now_holds, still_idle}
+use Rattle.board_callers.specs.Holding.{HoldsOnly, IsClaimedFor, WorkSays}
+use Rattle.board_callers.proofs.PieceWork.{now_holds, still_idle, says_later}
 
 -- no task came with a piece that was fresh, and a task that may be parked is one of the piece
 pub fresh_claimed : {T O : Type 0} (m : Meant T O) (k : ℕ) → IsClaimedFor m k None
@@ -52,3 +52,13 @@ module _ {X T O : Type 0} (m : Meant T O) (v w : View X T) (idle : IsIdle v) whe
 
     pub nothing_idle : FoundSays m pick n v Nothing w → IsIdle w
     nothing_idle h = still_idle v w h.0 idle h.2
+
+    -- and worked on it
+    pub fresh_worked : (k : PieceNo) (z : View X T) → FoundSays m pick n v (Fresh k) w → WorkSays m k.0 w z → (k.0 < n) × WorkSays m k.0 v z
+    fresh_worked k z h s = (subst (λ z. z < n) (sym h.2) (nth_inside pick n h.0 small h.1), says_later m k.0 v w z (h.3 ++ (Looks k.0 0 ∷ ClaimsFresh k.0 0 true ∷ [])) h.5.trail s)
+
+    pub parked_worked : (k : PieceNo) (t : T) (z : View X T) → FoundSays m pick n v (Parked k t) w → WorkSays m k.0 w z → (k.0 < n) × WorkSays m k.0 v z
+    parked_worked k t z h s = (
+      subst (λ z. z < n) (sym h.3) (nth_inside pick n h.1 small h.2),
+      says_later m k.0 v w z (h.4 ++ (Looks k.0 (8 + next_read m k.0 (m.taken t)) ∷ Looks (next_read m k.0 (m.taken t)) h.6 ∷ ClaimsParked k.0 (8 + next_read m k.0 (m.taken t)) true ∷ [])) h.9.trail s,
+    )

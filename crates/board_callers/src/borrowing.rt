@@ -1,8 +1,8 @@
 //! Outcomes that a task takes.
 
-ghost use Rattle.std.specs.Prelude.{◌≡◌, ◌<◌, None, IfOk};
+ghost use Rattle.std.specs.Prelude.{◌≡◌, ◌<◌, None, IfOk, OnErr};
 ghost use Rattle.settle_board.specs.Boards.{IsOf, means, view_of};
-ghost use Rattle.board_callers.specs.Holding.{BorrowSays};
+ghost use Rattle.board_callers.specs.Holding.{BorrowSays, IsBorrowed};
 
 use crate::tasked::Tasked;
 use cxx_base::{Memory, PieceNo};
@@ -21,7 +21,7 @@ pub enum Loan {
     Busy,
 }
 
-/// Borrows the outcome of a piece, takes a copy, and gives it back. Without memory it was given back all the same.
+/// Borrows the outcome of a piece, takes a copy, and gives it back. Without memory it was given back all the same, and not taken.
 pub fn borrow<M: Tasked>(
     alloc: Global,
     board: &Board<M>,
@@ -37,6 +37,8 @@ pub fn borrow<M: Tasked>(
     ensures says { IfOk result (λ b.
         BorrowSays (means M.Meaning board.now) j.0 taken.old (view_of seat.old) b taken.new
         (view_of seat.new)) }
+    ensures given_back { OnErr result ((taken.new ≡ taken.old)
+        × IsBorrowed j.0 (view_of seat.old) (view_of seat.new)) }
 {
     match board.lend(seat, j) {
         Lend::Got(outcome) => {

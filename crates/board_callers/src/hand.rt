@@ -21,7 +21,7 @@ pub enum HandEnd {
     AllSettled,
     /// It saw that the hands are told to stop, or told them so.
     Stopped,
-    /// Memory ran out, and it told all hands to stop. It may still hold a piece.
+    /// Memory ran out, and it told all hands to stop. It still holds the piece on which it worked.
     NoMemory,
 }
 

@@ -1,8 +1,8 @@
 //! The work on one piece.
 
-ghost use Rattle.std.specs.Prelude.{◌≡◌, ◌<◌, OnOk};
-ghost use Rattle.settle_board.specs.Boards.{IsIdle, IsOf, meaning_of, means, view_of};
-ghost use Rattle.board_callers.specs.Holding.{HoldsOnly, IsClaimedFor};
+ghost use Rattle.std.specs.Prelude.{◌≡◌, ◌<◌, OnOk, OnErr};
+ghost use Rattle.settle_board.specs.Boards.{IsOf, meaning_of, means, view_of};
+ghost use Rattle.board_callers.specs.Holding.{HoldsOnly, IsClaimedFor, WorkSays};
 
 use crate::borrowing::{Loan, borrow};
 use crate::tasked::Tasked;
@@ -14,7 +14,7 @@ use std::sync::Wait;
 use std::thread;
 
 /// Settles the one piece that the seat holds, once it has borrowed the outcomes that the piece reads, or parks it on the first of
-/// these that is not settled. Without memory the seat still holds the piece.
+/// these that is not settled. Without memory the seat still holds the piece, and nothing is lent to it.
 pub fn work<R: Wait, M: Tasked>(
     rt: &R,
     alloc: Global,
@@ -30,7 +30,9 @@ pub fn work<R: Wait, M: Tasked>(
     requires holds { HoldsOnly k.0 claimed (view_of seat.old) }
     requires claimed { IsClaimedFor (means M.Meaning board.now) k.0 claimed }
     ensures of { IsOf M.Meaning board.now seat.new }
-    ensures idle { OnOk result (IsIdle (view_of seat.new)) }
+    ensures worked { OnOk result (WorkSays (means M.Meaning board.now) k.0 (view_of seat.old)
+        (view_of seat.new)) }
+    ensures holds { OnErr result (HoldsOnly k.0 claimed (view_of seat.new)) }
 {
     let mut taken = TakenList::new(alloc);
     for _ in rt.forever() {

@@ -12,7 +12,7 @@ use std::alloc::Global;
 use std::sync::Wait;
 use std::thread;
 
-/// The hand works until it sees all pieces settled, or the stop word set.
+/// The hand works until it sees all pieces settled, finds the stop word set or sets it.
 pub fn run<R: Wait, M: Tasked>(
     rt: &R,
     alloc: Global,

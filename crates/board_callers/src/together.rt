@@ -22,7 +22,7 @@ use std::thread::{Threads, for_each_mut};
 pub enum Ending<O> {
     /// The outcomes of work in order.
     Settled(OutcomeList<O>),
-    /// A piece was left, since the hands were told to stop.
+    /// The first piece that no hand saw settled.
     Left(Unsettled),
 }
 

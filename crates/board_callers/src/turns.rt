@@ -2,7 +2,7 @@
 
 ghost use Rattle.std.specs.Prelude.{◌≡◌, ◌≤◌, ◌<◌, IsTrue};
 ghost use Rattle.settle_board.specs.Boards.{IsIdle, IsOf, meaning_of, means, view_of};
-ghost use Rattle.board_callers.specs.Ends.{HasSeenAll, TurnSays};
+ghost use Rattle.board_callers.specs.Ends.{HasSeenAll, LooksSay, TurnSays};
 
 use crate::piece_work::work;
 use crate::tasked::Tasked;
@@ -18,11 +18,11 @@ use std::sync::Wait;
 pub enum TurnEnd {
     /// A piece was settled or parked.
     Worked(PieceNo),
-    /// Each piece was seen settled.
+    /// No piece was to be had, and each was seen settled.
     SawAll,
-    /// No piece was to be had.
+    /// No piece was to be had, and one was seen unsettled.
     Waits,
-    /// Memory ran out.
+    /// Memory ran out. The seat holds the piece that it had got.
     Fails,
 }
 
@@ -42,7 +42,8 @@ pub fn turn<R: Wait, M: Tasked>(
     requires all { pieces ≡ (means M.Meaning board.now).pieces }
     requires pick { pick ≤ pieces }
     ensures of { IsOf M.Meaning board.now seat.new }
-    ensures turn { TurnSays pieces result (view_of seat.new) }
+    ensures turn { TurnSays (means M.Meaning board.now) pieces result (view_of seat.old)
+        (view_of seat.new) }
 {
     match search(board, seat, pieces, pick) {
         Found::Fresh(k) => match work(rt, alloc, board, meaning, seat, k, None) {
@@ -71,6 +72,7 @@ fn sees_all<M: Meaning>(board: &Board<M>, seat: &mut BoardSeat<M>, pieces: u32) 
     ensures of { IsOf M.Meaning board.now seat.new }
     ensures idle { IsIdle (view_of seat.new) }
     ensures all { IsTrue result → HasSeenAll pieces (view_of seat.new) }
+    ensures looks { LooksSay pieces result (view_of seat.old) (view_of seat.new) }
 {
     for k in 0..pieces {
         let word = board.look(seat, PieceNo(k));

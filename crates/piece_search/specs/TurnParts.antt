@@ -1,5 +1,5 @@
 -- What the part of a trail says that a call added: words for the ends of a worker's turn.
-use Rattle.std.specs.Prelude.{◌≡◌, ◌≢◌, ℕ, ◌+◌, ◌-◌, ◌<◌, List, [], ◌∷◌, ◌++◌, ltb, if◌then◌else◌, Option, Some, None}
+use Rattle.std.specs.Prelude.{◌≡◌, ◌≢◌, ℕ, ◌+◌, ◌-◌, List, [], ◌∷◌, ◌++◌, false, ltb, if◌then◌else◌, Option, Some, None}
 use Rattle.board_rule.specs.declared.view.Entry.{Entry}
 use Rattle.board_rule.specs.declared.view.Entry.TheVariants.{Looks, LooksAtStop, ClaimsFresh, ClaimsParked, Settles, Parks, Lends, GivesBack, Stops}
 use Rattle.settle_board.specs.Changes.{IsSettledWord, TurnsAway}
@@ -32,16 +32,40 @@ module _ {T : Type 0} where
   abbrev pub SeesUnsettled : ℕ → List (Entry T) → Type 0
   SeesUnsettled k part = (r : ℕ) × (r ≢ 3) × (r ≢ 4) × Finds k r part
 
-  -- the stop word was found set
+  -- the stop word was found set; it was set
   abbrev pub FindsStop : List (Entry T) → Type 0
   FindsStop part = IsWithin (LooksAtStop 1 ∷ []) part
 
-  -- the piece k was settled; it was parked on another
+  abbrev pub StoresStop : List (Entry T) → Type 0
+  StoresStop part = IsWithin (Stops ∷ []) part
+
+  -- the piece k was settled; it was parked on another, with this task
   abbrev pub SettlesIt : ℕ → List (Entry T) → Type 0
   SettlesIt k part = IsWithin (Settles k ∷ []) part
 
-  abbrev pub ParksOn : ℕ → ℕ → List (Entry T) → Type 0
-  ParksOn k on part = (t : T) × IsWithin (Parks k (8 + on) t ∷ []) part
+  abbrev pub ParksOn : ℕ → ℕ → T → List (Entry T) → Type 0
+  ParksOn k on t part = IsWithin (Parks k (8 + on) t ∷ []) part
+
+  -- a wish to borrow the outcome of k found it lent
+  abbrev pub LendsBusy : ℕ → List (Entry T) → Type 0
+  LendsBusy k part = IsWithin (Lends k 4 false ∷ []) part
+
+  -- a look, or an exchange that is lost
+  abbrev pub MovesNothing : Entry T → Type 0
+  MovesNothing (Looks k r) = Unit {0}
+  MovesNothing (LooksAtStop r) = Unit {0}
+  MovesNothing (ClaimsFresh k r won) = won ≡ false
+  MovesNothing (ClaimsParked k r won) = won ≡ false
+  MovesNothing (Settles k) = ⊥
+  MovesNothing (Parks k w t) = ⊥
+  MovesNothing (Lends k r won) = won ≡ false
+  MovesNothing (GivesBack k) = ⊥
+  MovesNothing Stops = ⊥
+
+  -- no piece was claimed, settled, parked, lent or given back, and the stop word was not set
+  abbrev pub IsMoveless : List (Entry T) → Type 0
+  IsMoveless [] = Unit {0}
+  IsMoveless (e ∷ part) = MovesNothing e × IsMoveless part
 
   -- the piece k was tried, and was not to be had
   abbrev pub IsTurnedAway : ℕ → List (Entry T) → Type 0
@@ -51,6 +75,8 @@ module _ {T : Type 0} where
 abbrev pub nth_from : ℕ → ℕ → ℕ → ℕ
 nth_from pick n i = if ltb (pick + i) n then pick + i else pick + i - n
 
--- each of so many pieces from the pick round was tried, and none was to be had
-abbrev pub RoundTurnsAway : {T : Type 0} → ℕ → ℕ → ℕ → List (Entry T) → Type 0
-RoundTurnsAway pick n count part = (i : ℕ) → i < count → IsTurnedAway (nth_from pick n i) part
+-- So many of n pieces were tried from the pick round, one after the other and each of them once. None was to be had, and there are no steps
+-- but these
+pub data Round {T : Type 0} (pick n : ℕ) : ℕ → List (Entry T) → Type 0 where
+  none : Round pick n 0 []
+  more : (i : ℕ) (part steps : List (Entry T)) → Round pick n i part → TurnsAway (nth_from pick n i) steps → Round pick n (i + 1) (part ++ steps)

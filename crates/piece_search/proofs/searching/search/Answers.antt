@@ -1,8 +1,11 @@
 use Rattle.settle_board.specs.Boards.{view_of}
 use Rattle.settle_board.proofs.Callers.{claim_starts, claim_resumes, claim_not_now, claim_still}
-use Rattle.piece_search.proofs.Searches.{gets, tried_more}
+use Rattle.piece_search.proofs.Searches.{gets, tried_none, tried_more}
 use Rattle.piece_search.proofs.searching.search.Goals as goal
 use Rattle.piece_search.proofs.searching.search.Goals.{in-NotNow, in-StillParked}
+
+pub loop-i-init : goal.loop-i-init
+loop-i-init g c = record { of = c.requires.of; tried = tried_none c.args.pick c.args.pieces (view_of c.args.seat.now) }
 
 pub loop-i-preserved : goal.loop-i-preserved
 loop-i-preserved g c = let m = g.M.Meaning.meant c.args.board.now.key.meaning in let k = c.piece_at-k.result.0 in let u = view_of c.args.seat.now in let v = view_of c.loop-i.seat in let w = view_of c.claim.new.seat in
