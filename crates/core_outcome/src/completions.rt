@@ -36,7 +36,8 @@ pub struct Completions {
     pub classes: Items<Completion>,
     /// Whether it is that of a consteval block. A tree that is evaluated while the body of a block is elaborated is not.
     pub is_block: bool,
-    /// The type of the variable that the piece at hand declares, which is known in its own initializer.
+    /// The type of the variable that the piece at hand declares, which is known in its own initializer. (Of an enumeration whose list is at
+    /// hand, the frame tells: it is the entity that the piece declares.)
     pub own: Option<CxxType>,
 }
 

@@ -1,9 +1,10 @@
 //! Classes in each other.
 
+use crate::values::value_of;
 use class_layout::Layout;
 use containers::Items;
 use core_shape::{
-    Class, ClassHead, CompletedBy, ImplicitMaking, Member, PartAt, PartsBefore, Shape,
+    Base, Class, ClassHead, CompletedBy, ImplicitMaking, Member, PartAt, PartsBefore, Shape,
     SpecialMembers,
 };
 use core_words::AccessLevel;
@@ -11,6 +12,12 @@ use cxx_base::{EntityNo, IntKind, Memory, Name, PieceNo};
 use cxx_type::{BasicType, CxxType, Layers};
 use sharing::Shared;
 use std::alloc::Global;
+use std::mem::replace;
+
+// An object without a part is a leaf.
+fn leaves_of(scalars: u64) -> u64 {
+    if scalars == 0 { 1 } else { scalars }
+}
 
 // The class of a number, with so many scalars.
 fn head(n: u32, scalars: u64) -> ClassHead {
@@ -19,7 +26,7 @@ fn head(n: u32, scalars: u64) -> ClassHead {
         by: CompletedBy::Text(PieceNo(n)),
         layout: Layout { size: 4, align: 4 },
         scalars,
-        leaves: scalars,
+        leaves: leaves_of(scalars),
         special: SpecialMembers {
             has_constructor: false,
             default_constructor: None,
@@ -45,6 +52,21 @@ pub fn type_of(basic: BasicType) -> CxxType {
     }
 }
 
+// Where a part begins that has so many scalars before it.
+fn part_at(scalar: u64) -> PartAt {
+    PartAt {
+        offset: 0,
+        scalar,
+        leaf: scalar,
+        before: PartsBefore {
+            missing: 0,
+            consteval: 0,
+            guarded: 0,
+            end_guarded: 0,
+        },
+    }
+}
+
 pub fn member(n: u32, shape: Shape) -> Member {
     Member {
         name: Name(n),
@@ -53,17 +75,7 @@ pub fn member(n: u32, shape: Shape) -> Member {
         align: 4,
         default_init: None,
         shape,
-        at: PartAt {
-            offset: 0,
-            scalar: u64::from(n),
-            leaf: u64::from(n),
-            before: PartsBefore {
-                missing: 0,
-                consteval: 0,
-                guarded: 0,
-                end_guarded: 0,
-            },
-        },
+        at: part_at(u64::from(n)),
     }
 }
 
@@ -81,7 +93,7 @@ pub fn shape_of(n: u32, class: Shared<Class>, scalars: u64) -> Shape {
         of: type_of(BasicType::Class(EntityNo(n))),
         class: Some(class),
         scalars,
-        leaves: scalars,
+        leaves: leaves_of(scalars),
     }
 }
 
@@ -108,14 +120,20 @@ fn around(alloc: Global, n: u32, within: Shape) -> Result<Shape, Memory> {
     Ok(shape_of(n, class, 1))
 }
 
-/// Classes in each other, as many as are asked for: the outermost is kept, copied, and let go.
-pub fn nest(alloc: Global, count: u32) -> Result<bool, Memory> {
+fn nested(alloc: Global, count: u32) -> Result<Shape, Memory> {
     let mut shape = number();
     for n in 0..count {
         shape = around(alloc, n, shape)?;
     }
-    let copy = shape.copy()?;
-    Ok(copy.scalars == shape.scalars)
+    Ok(shape)
+}
+
+/// Classes in each other, as many as are asked for, made twice: values of the outermost are compared, copied, and let go.
+pub fn nest(alloc: Global, count: u32) -> Result<bool, Memory> {
+    let one = value_of(alloc, &nested(alloc, count)?, 1)?;
+    let other = value_of(alloc, &nested(alloc, count)?, 1)?;
+    let copy = one.copy()?;
+    Ok(copy.same(&other))
 }
 
 // A class with two members of the class within.
@@ -136,5 +154,51 @@ pub fn double(alloc: Global, count: u32) -> Result<bool, Memory> {
         shape = twice(alloc, n, shape)?;
     }
     let copy = shape.copy()?;
-    Ok(copy.scalars == shape.scalars)
+    Ok(copy.of.same(&shape.of) && copy.scalars == shape.scalars && copy.leaves == shape.leaves)
+}
+
+fn base(shape: Shape) -> Base {
+    Base {
+        access: AccessLevel::Public,
+        shape,
+        at: part_at(0),
+    }
+}
+
+// A class without scalars that has these bases.
+fn derived(alloc: Global, n: u32, bases: Items<Base>) -> Result<Shape, Memory> {
+    let class = Class::new(head(n, 0), bases, Items::new(alloc), Items::new(alloc))?;
+    let class = Shared::new(alloc, class)?;
+    Ok(shape_of(n, class, 0))
+}
+
+// `struct X : within {};`
+fn over_one(alloc: Global, n: u32, within: &Shape) -> Result<Shape, Memory> {
+    let mut bases = Items::new(alloc);
+    bases.push(base(within.copy()?))?;
+    derived(alloc, n, bases)
+}
+
+// `struct Y : first, within {};`
+fn over_two(alloc: Global, n: u32, first: &Shape, within: &Shape) -> Result<Shape, Memory> {
+    let mut bases = Items::new(alloc);
+    bases.push(base(first.copy()?))?;
+    bases.push(base(within.copy()?))?;
+    derived(alloc, n, bases)
+}
+
+/// Two chains of classes: `struct X1 : X0 {}; struct Y1 : X1, Y0 {};` and so on, so many times. All are kept, and let go in order, so that the
+/// last of the second chain holds the last share of all others.
+pub fn cross(alloc: Global, count: u32) -> Result<bool, Memory> {
+    let mut first = derived(alloc, 0, Items::new(alloc))?;
+    let mut within = derived(alloc, 1, Items::new(alloc))?;
+    let mut shapes = Items::new(alloc);
+    for n in 0..count {
+        let next = over_one(alloc, n, &first)?;
+        let around = over_two(alloc, n, &next, &within)?;
+        shapes.push(replace(&mut first, next))?;
+        shapes.push(replace(&mut within, around))?;
+    }
+    let copy = within.copy()?;
+    Ok(copy.of.same(&within.of) && copy.leaves == within.leaves)
 }

@@ -3,27 +3,38 @@
 use containers::{Boxed, Items};
 use core_outcome::{Constant, Declared, Outcome, OutcomeParts};
 use core_value::{Scalar, Value};
-use cxx_base::{EntityNo, Memory, Place};
+use cxx_base::{EntityNo, IntKind, Memory, Place};
+use cxx_type::BasicType;
 use sharing::Shared;
 use std::alloc::Global;
-use typed_code::{Expr, ExprNo, ExprNode, ShapeNo, TypeNo, TypedCode};
+use typed_code::{Expr, ExprNo, ExprNode, ShapeNo, TypeNo, TypedCode, basic_number_of};
 
-// The code of `constexpr int a = n;`: int is the basic type of number 14, and const int that of 15.
+/// The number of int or const int, which every code has without a table.
+pub fn int_number(is_const: bool) -> Result<u32, Memory> {
+    match basic_number_of(BasicType::Int(IntKind::Int), is_const) {
+        Some(number) => Ok(number),
+        None => Err(Memory),
+    }
+}
+
+// The code of `constexpr int a = n;`.
 fn code_of(alloc: Global, n: u32) -> Result<(TypedCode, ExprNo), Memory> {
+    let plain = int_number(false)?;
+    let constant = int_number(true)?;
     let place = Place::START;
     let mut code = TypedCode::new(alloc);
     let literal = code.put_expr(ExprNode {
         expr: Expr::Number(i64::from(n)),
-        of: TypeNo(14),
+        of: TypeNo(plain),
         place,
     })?;
     let root = code.put_expr(ExprNode {
         expr: Expr::Variable {
             variable: EntityNo(n),
-            shape: ShapeNo(15),
+            shape: ShapeNo(constant),
             init: literal,
         },
-        of: TypeNo(15),
+        of: TypeNo(constant),
         place,
     })?;
     Ok((code, root))
@@ -36,7 +47,7 @@ fn outcome_of(alloc: Global, n: u32) -> Result<Outcome, Memory> {
     let constant = Constant {
         code,
         root,
-        shape: ShapeNo(15),
+        shape: ShapeNo(int_number(true)?),
         value: Value::Scalar(Scalar::Number(i128::from(n))),
     };
     let declared = Declared::Constant(Boxed::new(alloc, constant)?);
@@ -51,7 +62,7 @@ fn outcome_of(alloc: Global, n: u32) -> Result<Outcome, Memory> {
     )
 }
 
-/// So many outcomes are kept at once, and each is copied.
+/// So many outcomes are kept at once, and each is copied. `tests/data` counts what they take.
 pub fn keep(alloc: Global, count: u32) -> Result<bool, Memory> {
     let mut outcomes = Items::new(alloc);
     for n in 0..count {

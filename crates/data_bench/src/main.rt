@@ -26,7 +26,9 @@ enum Made {
     Constants,
     Nested,
     Doubled,
+    Crossed,
     Reflections,
+    Pushed,
     Wide,
     Empty,
     Variants,
@@ -38,7 +40,9 @@ fn made_of(word: &str) -> Option<Made> {
         "constants" => Some(Made::Constants),
         "nested" => Some(Made::Nested),
         "doubled" => Some(Made::Doubled),
+        "crossed" => Some(Made::Crossed),
         "reflections" => Some(Made::Reflections),
+        "pushed" => Some(Made::Pushed),
         "wide" => Some(Made::Wide),
         "empty" => Some(Made::Empty),
         "variants" => Some(Made::Variants),
@@ -63,7 +67,9 @@ fn all(alloc: Global) -> Result<bool, Memory> {
         constants::keep(alloc, 65_536)?
             && classes::nest(alloc, 16_000)?
             && classes::double(alloc, 30)?
+            && classes::cross(alloc, 1_000)?
             && reflections::nest(alloc, 100_000)?
+            && reflections::push(alloc, 100_000)?
             && values::wide(alloc, 60_000)?
             && values::empty(alloc, 2_147_483_647)?
             && variants::copy(alloc, 16)?,
@@ -85,7 +91,9 @@ fn answer(alloc: Global, made: Made, count: u32) -> Result<bool, Memory> {
         Made::Constants => constants::keep(alloc, count),
         Made::Nested => classes::nest(alloc, count),
         Made::Doubled => classes::double(alloc, count),
+        Made::Crossed => classes::cross(alloc, count),
         Made::Reflections => reflections::nest(alloc, count),
+        Made::Pushed => reflections::push(alloc, count),
         Made::Wide => values::wide(alloc, count),
         Made::Empty => values::empty(alloc, count),
         Made::Variants => variants::copy(alloc, count),

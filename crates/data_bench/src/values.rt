@@ -20,7 +20,8 @@ fn wide_shape(alloc: Global, count: u32) -> Result<Shape, Memory> {
     Ok(shape_of(0, class, scalars))
 }
 
-fn wide_value(alloc: Global, shape: &Shape, count: u32) -> Result<Value, Memory> {
+/// A value of a shape, of so many numbers.
+pub fn value_of(alloc: Global, shape: &Shape, count: u32) -> Result<Value, Memory> {
     let mut scalars = Items::new(alloc);
     for n in 0..count {
         scalars.push(Scalar::Number(i128::from(n)))?;
@@ -33,8 +34,8 @@ fn wide_value(alloc: Global, shape: &Shape, count: u32) -> Result<Value, Memory>
 /// The value of a class with so many members, twice: a copy, and a comparison.
 pub fn wide(alloc: Global, count: u32) -> Result<bool, Memory> {
     let shape = wide_shape(alloc, count)?;
-    let one = wide_value(alloc, &shape, count)?;
-    let other = wide_value(alloc, &shape, count)?;
+    let one = value_of(alloc, &shape, count)?;
+    let other = value_of(alloc, &shape, count)?;
     let copy = one.copy()?;
     Ok(copy.same(&other))
 }

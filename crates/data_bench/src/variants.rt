@@ -1,6 +1,7 @@
 //! Outcomes of each kind of piece.
 
 use crate::classes::{class_of, number, type_of};
+use crate::constants::int_number;
 use containers::{Boxed, Items};
 use core_outcome::{
     Completion, Constant, Declared, Enumeration, FunctionBody, OpenedBase, Outcome, OutcomeParts,
@@ -19,13 +20,14 @@ use typed_code::{
 /// How many variants there are.
 const VARIANTS: u32 = 16;
 
-// The code of `return 1;`: int is the basic type of number 14.
+// The code of `return 1;`.
 fn code_of(alloc: Global) -> Result<Shared<TypedCode>, Memory> {
     let place = Place::START;
+    let plain = int_number(false)?;
     let mut code = TypedCode::new(alloc);
     let value = code.put_expr(ExprNode {
         expr: Expr::Number(1),
-        of: TypeNo(14),
+        of: TypeNo(plain),
         place,
     })?;
     code.put_stmt(StmtNode {
@@ -84,7 +86,7 @@ fn constant(alloc: Global) -> Result<Declared, Memory> {
     let constant = Constant {
         code: code_of(alloc)?,
         root: ExprNo(0),
-        shape: ShapeNo(15),
+        shape: ShapeNo(int_number(true)?),
         value: Value::Scalar(Scalar::Number(1)),
     };
     Ok(Declared::Constant(Boxed::new(alloc, constant)?))

@@ -87,13 +87,17 @@ module _ (a b : Arrays) (g : Extends a b) where
     ex_grows (t.Delete at is_array operand) i h = (h.0, node_grows i at (e.Delete is_array h.0) h.1, ex_grows operand h.0 h.2)
     ex_grows (t.Braced at x) i h = (h.0, node_grows i at (e.Braced h.0) h.1, ex_grows x h.0 h.2)
     ex_grows (t.ClassList at clauses) i h = (h.0, node_grows i at (e.ClassList h.0) h.1, h.2, clauses_grow clauses (h.0).first h.3)
-    ex_grows (t.ArrayList at clauses) i h = (h.0, node_grows i at (e.ArrayList h.0) h.1, h.2, exs_grow clauses (h.0).first h.3)
+    ex_grows (t.ArrayList at clauses rest) i h = (h.0, h.1, node_grows i at (e.ArrayList h.0 h.1) h.2, h.3, exs_grow clauses (h.0).first h.4, ex_if_grows rest h.1 h.5)
     ex_grows (t.Zero at) i h = node_grows i at e.Zero h
     ex_grows (t.Default at) i h = node_grows i at e.Default h
+    ex_grows (t.Parts at clauses is_zero) i h = (h.0, node_grows i at (e.Parts h.0 is_zero) h.1, h.2, clauses_grow clauses (h.0).first h.3)
+    ex_grows (t.Each at x) i h = (h.0, node_grows i at (e.Each h.0) h.1, ex_grows x h.0 h.2)
+    ex_grows (t.Initializer at x) i h = (h.0, node_grows i at (e.Initializer h.0) h.1, ex_grows x h.0 h.2)
     ex_grows (t.Construct at constructor args) i h = (h.0, node_grows i at (e.Construct constructor h.0) h.1, h.2, args_grow args (h.0).first h.3)
     ex_grows (t.Infos at xs) i h = (h.0, node_grows i at (e.Infos h.0) h.1, h.2, exs_grow xs (h.0).first h.3)
     ex_grows (t.SpecOptions at name alignment) i h = (h.0, h.1, node_grows i at (e.SpecOptions h.0 h.1) h.2, ex_if_grows name h.0 h.3, ex_if_grows alignment h.1 h.4)
     ex_grows (t.Objects at args) i h = (h.0, node_grows i at (e.Objects h.0) h.1, h.2, args_grow args (h.0).first h.3)
+    ex_grows (t.Repeated at times x) i h = (h.0, node_grows i at (e.Repeated times h.0) h.1, ex_grows x h.0 h.2)
     ex_grows (t.Call at function args) i h = (h.0, node_grows i at (e.Call function h.0) h.1, h.2, args_grow args (h.0).first h.3)
     ex_grows (t.MemberCall at function object args) i h = (h.0, h.1, node_grows i at (e.MemberCall function h.0 h.1) h.2, ex_grows object h.0 h.3, h.4, args_grow args (h.1).first h.5)
     ex_grows (t.DroppingCall at function object args) i h = (h.0, h.1, node_grows i at (e.DroppingCall function h.0 h.1) h.2, ex_grows object h.0 h.3, h.4, args_grow args (h.1).first h.5)
@@ -126,6 +130,7 @@ module _ (a b : Arrays) (g : Extends a b) where
     st_grows (u.Block at xs) i h = (h.0, stmt_node_grows i at (s.Block h.0) h.1, h.2, sts_grow xs (h.0).first h.3)
     st_grows (u.Scope at x) i h = (h.0, stmt_node_grows i at (s.Scope h.0) h.1, st_grows x h.0 h.2)
     st_grows (u.Empty at) i h = stmt_node_grows i at s.Empty h
+    st_grows (u.Nothing at) i h = stmt_node_grows i at s.Nothing h
     st_grows (u.Expr at x) i h = (h.0, stmt_node_grows i at (s.Expr h.0) h.1, ex_grows x h.0 h.2)
     st_grows (u.Local at slot shape init) i h = (h.0, h.1, stmt_node_grows i at (s.Local slot h.0 h.1) h.2, shape_grows shape h.0 h.3, ex_grows init h.1 h.4)
     st_grows (u.SettledLocal at slot shape value) i h = (h.0, h.1, stmt_node_grows i at (s.SettledLocal slot h.0 h.1) h.2, shape_grows shape h.0 h.3, value_grows value h.1 h.4)

@@ -62,13 +62,17 @@ mutual
     Delete : Typed → Bool → Ex → Ex
     Braced : Typed → Ex → Ex
     ClassList : Typed → Clauses → Ex
-    ArrayList : Typed → Exs → Ex
+    ArrayList : Typed → Exs → ExIf → Ex
     Zero : Typed → Ex
     Default : Typed → Ex
+    Parts : Typed → Clauses → Bool → Ex
+    Each : Typed → Ex → Ex
+    Initializer : Typed → Ex → Ex
     Construct : Typed → EntityNo → Args → Ex
     Infos : Typed → Exs → Ex
     SpecOptions : Typed → ExIf → ExIf → Ex
     Objects : Typed → Args → Ex
+    Repeated : Typed → ℕ → Ex → Ex
     Call : Typed → EntityNo → Args → Ex
     MemberCall : Typed → EntityNo → Ex → Args → Ex
     DroppingCall : Typed → EntityNo → Ex → Args → Ex

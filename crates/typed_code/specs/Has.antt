@@ -96,13 +96,17 @@ module _ (b : Arrays) where
     HasEx i (t.Delete at is_array operand) = (at_operand : ExprNo) × NodeAt i at (e.Delete is_array at_operand) × HasEx at_operand operand
     HasEx i (t.Braced at x) = (j : ExprNo) × NodeAt i at (e.Braced j) × HasEx j x
     HasEx i (t.ClassList at clauses) = (at_clauses : ListAt) × NodeAt i at (e.ClassList at_clauses) × (at_clauses.count ≡ clauses_of clauses) × HasClauses at_clauses.first clauses
-    HasEx i (t.ArrayList at clauses) = (at_clauses : ListAt) × NodeAt i at (e.ArrayList at_clauses) × (at_clauses.count ≡ count_of clauses) × HasExs at_clauses.first clauses
+    HasEx i (t.ArrayList at clauses rest) = (at_clauses : ListAt) × (at_rest : Option ExprNo) × NodeAt i at (e.ArrayList at_clauses at_rest) × (at_clauses.count ≡ count_of clauses) × HasExs at_clauses.first clauses × HasExIf at_rest rest
     HasEx i (t.Zero at) = NodeAt i at e.Zero
     HasEx i (t.Default at) = NodeAt i at e.Default
+    HasEx i (t.Parts at clauses is_zero) = (at_clauses : ListAt) × NodeAt i at (e.Parts at_clauses is_zero) × (at_clauses.count ≡ clauses_of clauses) × HasClauses at_clauses.first clauses
+    HasEx i (t.Each at x) = (j : ExprNo) × NodeAt i at (e.Each j) × HasEx j x
+    HasEx i (t.Initializer at x) = (j : ExprNo) × NodeAt i at (e.Initializer j) × HasEx j x
     HasEx i (t.Construct at constructor args) = (at_args : ListAt) × NodeAt i at (e.Construct constructor at_args) × (at_args.count ≡ args_of args) × HasArgs at_args.first args
     HasEx i (t.Infos at xs) = (l : ListAt) × NodeAt i at (e.Infos l) × (l.count ≡ count_of xs) × HasExs l.first xs
     HasEx i (t.SpecOptions at name alignment) = (at_name : Option ExprNo) × (at_alignment : Option ExprNo) × NodeAt i at (e.SpecOptions at_name at_alignment) × HasExIf at_name name × HasExIf at_alignment alignment
     HasEx i (t.Objects at args) = (at_args : ListAt) × NodeAt i at (e.Objects at_args) × (at_args.count ≡ args_of args) × HasArgs at_args.first args
+    HasEx i (t.Repeated at times x) = (j : ExprNo) × NodeAt i at (e.Repeated times j) × HasEx j x
     HasEx i (t.Call at function args) = (at_args : ListAt) × NodeAt i at (e.Call function at_args) × (at_args.count ≡ args_of args) × HasArgs at_args.first args
     HasEx i (t.MemberCall at function object args) = (at_object : ExprNo) × (at_args : ListAt) × NodeAt i at (e.MemberCall function at_object at_args) × HasEx at_object object × (at_args.count ≡ args_of args) × HasArgs at_args.first args
     HasEx i (t.DroppingCall at function object args) = (at_object : ExprNo) × (at_args : ListAt) × NodeAt i at (e.DroppingCall function at_object at_args) × HasEx at_object object × (at_args.count ≡ args_of args) × HasArgs at_args.first args
@@ -135,6 +139,7 @@ module _ (b : Arrays) where
     HasSt i (u.Block at xs) = (l : ListAt) × StmtAt i at (s.Block l) × (l.count ≡ stmts_of xs) × HasSts l.first xs
     HasSt i (u.Scope at x) = (j : StmtNo) × StmtAt i at (s.Scope j) × HasSt j x
     HasSt i (u.Empty at) = StmtAt i at s.Empty
+    HasSt i (u.Nothing at) = StmtAt i at s.Nothing
     HasSt i (u.Expr at x) = (j : ExprNo) × StmtAt i at (s.Expr j) × HasEx j x
     HasSt i (u.Local at slot shape init) = (at_shape : ShapeNo) × (at_init : ExprNo) × StmtAt i at (s.Local slot at_shape at_init) × HasShape at_shape shape × HasEx at_init init
     HasSt i (u.SettledLocal at slot shape value) = (at_shape : ShapeNo) × (at_value : ValueNo) × StmtAt i at (s.SettledLocal slot at_shape at_value) × HasShape at_shape shape × HasValue at_value value

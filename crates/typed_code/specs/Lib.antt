@@ -4,3 +4,5 @@ pub mod Held
 pub mod ExprTrees
 pub mod StmtTrees
 pub mod Has
+pub mod Steps
+pub mod Void

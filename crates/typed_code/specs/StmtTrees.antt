@@ -13,6 +13,7 @@ mutual
     Block : Place → Sts → St
     Scope : Place → St → St
     Empty : Place → St
+    Nothing : Place → St
     Expr : Place → Ex → St
     Local : Place → SlotNo → Shape → Ex → St
     SettledLocal : Place → SlotNo → Shape → Value → St

@@ -1,6 +1,6 @@
 //! The types that every code has without a table.
 
-ghost use Rattle.std.specs.Prelude.{◌≡◌, ◌<◌, ◌^◌, ℕ, slice_get, IfSome};
+ghost use Rattle.std.specs.Prelude.{◌≡◌, ◌<◌, ◌^◌, ℕ, Some, slice_get, IfNone, IfSome};
 ghost use Rattle.typed_code.specs.Basics.{basic_number};
 
 use cxx_base::IntKind;
@@ -46,6 +46,7 @@ pub(crate) fn basic_at(at: u32) -> Option<BasicType>
 fn place_of(basic: BasicType) -> Option<u32>
     ensures place { IfSome result (λ at. slice_get BASICS at ≡ Some basic) }
     ensures within { IfSome result (λ at. at < 19) }
+    ensures none { IfNone result ((at : ℕ) → slice_get BASICS at ≡ Some basic → ⊥) }
 {
     match basic {
         BasicType::Void => Some(0),
@@ -87,7 +88,8 @@ fn number_at(place: u32, is_const: bool) -> u32
 
 /// The number of a type without a layer that no declaration makes, for types and for shapes. None of others.
 pub fn basic_number_of(basic: BasicType, is_const: bool) -> Option<u32>
-    ensures { IfSome result (λ n. (at : ℕ) × (slice_get BASICS at ≡ Some basic) × (n ≡ basic_number at is_const)) }
+    ensures some { IfSome result (λ n. (at : ℕ) × (slice_get BASICS at ≡ Some basic) × (n ≡ basic_number at is_const)) }
+    ensures none { IfNone result ((at : ℕ) → slice_get BASICS at ≡ Some basic → ⊥) }
 {
     match place_of(basic) {
         Some(place) => Some(number_at(place, is_const)),

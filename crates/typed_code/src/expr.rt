@@ -6,14 +6,16 @@ use core_value::QueryRow;
 use cxx_base::{CompareOp, EntityNo, IntKind, IntOp, Place, ScopeNo};
 
 /// An expression: one variant for each tree that elaboration gives, its parts by their numbers. What it costs to evaluate is told
-/// beside each; a step is paid before the parts are evaluated. Some give a place, others a value. A value of a class or an array is
-/// made in the object that it initializes: of a variable, a parameter, a temporary, or a part of one of these.
+/// beside each, and by `Expr::steps`; a step is paid before the parts are evaluated. Some give a place, others a value. A place is a
+/// pointer while code runs: what has a reference as its type gives the place that the reference is bound to. A value of a class or an
+/// array is made in the object that it initializes: of a variable, a parameter, a temporary, or a part of one of these.
 #[derive(Clone, Copy)]
 pub enum Expr {
     /// A literal, or another number that is settled; one that is too large for it is a `Settled`. 1 step.
     Number(i64),
-    /// A value that is settled: of a literal, of `^^`, of a splice, or of a call that was evaluated while the tree was elaborated. 1
-    /// step.
+    /// A value that is settled: of a literal, of `^^`, of a splice, or of a call that was evaluated while the tree was elaborated; of a
+    /// call whose type is void, `no_value`. Where its type is a reference, it is a pointer, the place that this is bound to: of such a
+    /// call, and of the name of a constexpr local reference in a tree that is evaluated while the body around it is elaborated. 1 step.
     Settled(ValueNo),
     /// A string literal: the place of its bytes and a zero behind them ([lex.string]). 1 step.
     Text(TextNo),
@@ -21,8 +23,8 @@ pub enum Expr {
     Local(SlotNo),
     /// The name of a parameter or a local variable that is a reference: the place that it is bound to. 1 step.
     LocalReference(SlotNo),
-    /// The name of a constexpr local variable, in a tree that is evaluated while the body around it is elaborated: the place of an
-    /// object with its value, which the evaluation makes where it has not yet. 1 step.
+    /// The name of a constexpr local variable that is no reference, in a tree that is evaluated while the body around it is elaborated:
+    /// the place of an object with its value, which the evaluation makes where it has not yet. 1 step.
     SettledLocal {
         slot: SlotNo,
         shape: ShapeNo,
@@ -49,7 +51,8 @@ pub enum Expr {
     Read(ExprNo),
     /// The value of an object of a class, or of an array, at a place. No step: who makes the object pays.
     Copy(ExprNo),
-    /// A conversion. 1 step, unless it is part of another conversion that was paid.
+    /// A conversion. 1 step, unless it is free: as part of another conversion that was paid, or alone a change of const at the top, of
+    /// an array to a pointer, or of a place to a reference.
     Convert {
         how: Convert,
         is_free: bool,
@@ -106,7 +109,8 @@ pub enum Expr {
         shape: ShapeNo,
         init: ExprNo,
     },
-    /// `new` of an array of so many elements of one shape. 1 step, and its object.
+    /// `new` of an array of so many elements of one shape; `init` makes the array of them, so it is `Zero`, `Default`, an `ArrayList` or an
+    /// `Each`. 1 step, and its object.
     NewArray {
         shape: ShapeNo,
         length: ExprNo,
@@ -124,16 +128,29 @@ pub enum Expr {
     ClassList {
         clauses: ListAt,
     },
-    /// A braced list of the first elements of an array; the others are made as by `Zero`. 1 step.
+    /// A braced list of the first elements of an array; the others are made by `rest`, evaluated for each, or else as by `Zero`. 1 step.
     ArrayList {
         clauses: ListAt,
+        rest: Option<ExprNo>,
     },
-    /// An object for which nothing is written, in a list or parentheses: scalars are zero or null, a class is made by its constructor
-    /// without parameters, or by the default initializers of its parts, or else so ([dcl.init.general]). No step of its own.
+    /// An object for which nothing is written, in a list or parentheses: scalars are zero or null, a vector and a view are empty, an access
+    /// context is unprivileged, a class is made by its constructor without parameters, or by the default initializers of its parts, or
+    /// else so ([dcl.init.general]). No step of its own.
     Zero,
-    /// An object for which no initializer is written at all: the same, but that scalars without a default initializer have no value.
-    /// No step of its own.
+    /// An object for which no initializer is written at all: the same, but that scalars without a default initializer have no value. A
+    /// vector and a view are classes, and are empty here too ([vector.cons], [string.view.cons]). No step of its own.
     Default,
+    /// An object of a class for which nothing is written, as with `Zero` or with `Default`, and of which some parts are settled, since a
+    /// consteval constructor makes them: each with its number, bases first; all others are made as the word says. No step of its own.
+    Parts {
+        clauses: ListAt,
+        is_zero: bool,
+    },
+    /// An array each of whose elements is made by the same tree, which is evaluated for each. No step of its own.
+    Each(ExprNo),
+    /// An argument, a clause, a member initializer or the initializer of a local, where the tree in it does not begin at its first token:
+    /// this node has that place, and so has what it makes. Temporaries in it end where they did without it. No step.
+    Initializer(ExprNo),
     /// A constructor with its arguments, each with the shape of its parameter ([class.ctor]). 1 step, and the arguments.
     Construct {
         constructor: EntityNo,
@@ -146,9 +163,15 @@ pub enum Expr {
         name: Option<ExprNo>,
         alignment: Option<ExprNo>,
     },
-    /// Several objects that one tree makes, each with its shape, one after the other: all their scalars in a row, under a shape
-    /// without a type. No step of its own.
+    /// Several objects that one tree makes, each with its shape, one after the other: all their scalars in a row, under a shape of type
+    /// void without a class, whose scalars and leaves are the sums of theirs. No step of its own.
     Objects(ListAt),
+    /// What several objects come to, so often, one after the other, as of an array whose elements have them: the same row again and again,
+    /// under a shape as of `Objects`. No step of its own.
+    Repeated {
+        times: u64,
+        objects: ExprNo,
+    },
     /// A call of a function with its arguments, each with the shape of its parameter ([expr.call]). 1 step, and the arguments.
     Call {
         function: EntityNo,
@@ -201,8 +224,9 @@ pub enum Expr {
     },
 }
 
-/// An expression, its type, and the place of its first token. An expression that makes an object by a constructor has the place of the tree
-/// that makes the object.
+/// An expression, its type, and the place of its first token. What makes an object by a constructor or a list has the place of the tree that
+/// makes the object: a part with an initializer of its own that of this initializer, every other one that of the tree that makes the object
+/// around it. Where the outermost node of such a tree begins elsewhere, an `Initializer` around it has the place.
 #[derive(Clone, Copy)]
 pub struct ExprNode {
     pub expr: Expr,

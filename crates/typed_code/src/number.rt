@@ -26,7 +26,9 @@ pub struct ValueNo(pub u32);
 #[derive(Clone, Copy, Debug, PartialEq, Eq)]
 pub struct TextNo(pub u32);
 
-/// The number of a local variable in its body: parameters first, then variables in the order of their declarators.
+/// The number of a local variable in its body: parameters first, then variables in the order of their declarators. A body and the
+/// statement of a block say how many there are. A tree that is evaluated while the body around it is elaborated names few of those of this
+/// body, so whoever evaluates it keeps those that it names.
 #[derive(Clone, Copy, Debug, PartialEq, Eq)]
 pub struct SlotNo(pub u32);
 

@@ -5,7 +5,8 @@ use crate::word::{CompoundOp, Stepped};
 use cxx_base::Place;
 
 /// A statement: one variant for each that elaboration gives. Assertions, aliases, classes and blocks of a body are settled before it
-/// runs, and have none.
+/// runs, and have none but where a statement is asked for. What each costs is told beside it, and by `Stmt::steps` and
+/// `Stmt::turn_steps`.
 #[derive(Clone, Copy)]
 pub enum Stmt {
     /// Statements in braces ([stmt.block]): the variables that are made in them end behind them, last first. 1 step.
@@ -14,6 +15,9 @@ pub enum Stmt {
     Scope(StmtNo),
     /// `;` 1 step.
     Empty,
+    /// An assertion, an alias, a class or a block, which is settled, as the statement within an `if`, an `else`, a `while` or a `for`. No
+    /// step.
+    Nothing,
     /// An expression ([stmt.expr]). 1 step.
     Expr(ExprNo),
     /// A local variable ([stmt.dcl]). 1 step, and its object.

@@ -31,15 +31,20 @@ impl TypedExpr {
     }
 }
 
-/// A statement: its code, and the number of its outermost node.
+/// A statement: its code, the number of its outermost node, and how many slots its local variables take.
 pub struct TypedStmt {
     pub code: Shared<TypedCode>,
     pub root: StmtNo,
+    pub slots: u32,
 }
 
 impl Drop for TypedStmt {
     fn drop(self) {
-        let TypedStmt { code: _, root: _ } = self;
+        let TypedStmt {
+            code: _,
+            root: _,
+            slots: _,
+        } = self;
     }
 }
 
@@ -51,6 +56,7 @@ impl TypedStmt {
         Ok(TypedStmt {
             code: self.code.copy()?,
             root: self.root,
+            slots: self.slots,
         })
     }
 }

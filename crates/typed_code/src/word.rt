@@ -7,7 +7,7 @@ use cxx_base::{IntKind, IntOp};
 pub enum Convert {
     /// Nothing: the type alone changes.
     Same,
-    /// A whole number or an enumeration becomes the number of this kind.
+    /// A whole number or an enumeration becomes the number of this kind; of bool, whether it is not 0.
     ToKind(IntKind),
     /// The null pointer constant becomes a null pointer.
     ToNull,
@@ -75,7 +75,8 @@ pub enum Stepped {
     Pointer,
 }
 
-/// An operation of a `std::vector<std::meta::info>` or a `std::string_view`.
+/// An operation of a `std::vector<std::meta::info>` or a `std::string_view`. Its object is the place of one; what is a value, as the answer of a
+/// query is, stands in a `Temporary`.
 #[derive(Clone, Copy, Debug, PartialEq, Eq)]
 pub enum LibraryOp {
     PushBack,
