@@ -1,6 +1,6 @@
 -- The definitions of lookup, computed.
 use denote.Hole.Carrier.{out, roll}
-use Rattle.std.specs.Prelude.{◌≡◌, refl, ℕ, zero, suc, Bool, true, false, List, [], ◌∷◌, Option, None, Some, Result, Ok, Err}
+use Rattle.std.specs.Prelude.{◌≡◌, refl, ℕ, zero, suc, Bool, true, false, [], ◌∷◌, Option, None, Some, Result, Ok, Err}
 use Rattle.cxx_base.specs.Refusals as refusal
 use Rattle.cxx_base.specs.declared.code.Code.TheVariants.{N1, N3, N4, N5, V1}
 use Rattle.cxx_base.specs.declared.name.Name.{Name}
@@ -30,15 +30,14 @@ use Rattle.program_tables.specs.declared.piece.Piece.{Piece}
 use Rattle.program_tables.specs.declared.piece.PieceKind.{PieceKind}
 use Rattle.program_tables.specs.declared.piece.PieceKind.TheVariants as of
 use Rattle.program_tables.specs.declared.scope.LocalKind.TheVariants as local
-use Rattle.program_tables.specs.declared.scope.Scope.{Scope}
 use Rattle.program_tables.specs.declared.scope.ScopeKind.TheVariants as scope
 use Rattle.program_tables.specs.declared.scope.PieceScope.{PieceScope}
 use Rattle.read_trees.specs.Trees.{ReadTree, Goes, Stops, Pays, Reads, Asks}
 use Rattle.read_trees.specs.Walks.{Facts}
 use Rattle.read_trees.specs.Runs.{Came, Ended, Lacks, later, by_fact}
 use Rattle.core_lookup.specs.Tables.{Tables}
-use Rattle.core_lookup.specs.Classes.{ClassAt, Text, Injected, Incomplete, class_at}
-use Rattle.core_lookup.specs.Found.{Match, Entity_, found}
+use Rattle.core_lookup.specs.Classes.{Injected, Incomplete, class_at}
+use Rattle.core_lookup.specs.Found.{Entity_, found}
 use Rattle.core_lookup.specs.Access.{accessible}
 
 -- what a tree comes to, with its refusal

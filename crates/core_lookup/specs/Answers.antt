@@ -1,5 +1,5 @@
 -- What the calls of a lookup answer.
-use Rattle.std.specs.Prelude.{◌≡◌, ℕ, Bool, true, false, Option, None}
+use Rattle.std.specs.Prelude.{◌≡◌, ℕ, Bool, true, false, None}
 use Rattle.cxx_base.specs.declared.number.PieceNo.{PieceNo}
 use Rattle.cxx_base.specs.declared.refusal.Refusal.{Refusal}
 use Rattle.core_outcome.specs.declared.outcome.OutcomeParts.{OutcomeParts}

@@ -1,5 +1,5 @@
 -- A class at a point: complete by its text, complete by a block, or incomplete ([class.mem], P3289R1).
-use Rattle.std.specs.Prelude.{ℕ, zero, suc, Bool, true, false, ◌&&◌, ◌||◌, not, if◌then◌else◌, nat_eq, nat_lt, List, [], ◌∷◌, Option, None, Some, is_some}
+use Rattle.std.specs.Prelude.{ℕ, zero, suc, Bool, false, ◌||◌, if◌then◌else◌, nat_eq, nat_lt, List, [], ◌∷◌, Option, None, Some, is_some}
 use Rattle.cxx_base.specs.declared.number.EntityNo.{EntityNo}
 use Rattle.cxx_base.specs.declared.number.PieceNo.{PieceNo}
 use Rattle.core_outcome.specs.declared.completions.Completion.{Completion}

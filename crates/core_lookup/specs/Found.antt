@@ -1,5 +1,5 @@
 -- What a name finds at a point ([basic.lookup]).
-use Rattle.std.specs.Prelude.{ℕ, zero, suc, Bool, true, false, ◌&&◌, ◌||◌, not, if◌then◌else◌, nat_eq, nat_lt, List, [], ◌∷◌, length, Option, None, Some, slice_get}
+use Rattle.std.specs.Prelude.{ℕ, zero, suc, Bool, true, false, ◌&&◌, not, if◌then◌else◌, nat_eq, nat_lt, List, [], ◌∷◌, length, Option, None, Some, slice_get}
 use Rattle.cxx_base.specs.Refusals as refusal
 use Rattle.cxx_base.specs.declared.code.Code.{Code}
 use Rattle.cxx_base.specs.declared.code.Code.TheVariants.{N1, N3, N4, N5}
@@ -11,7 +11,6 @@ use Rattle.cxx_base.specs.declared.number.ScopeNo.{ScopeNo}
 use Rattle.cxx_base.specs.declared.place.Place.{Place}
 use Rattle.cxx_base.specs.declared.refusal.Refusal.{Refusal}
 use Rattle.core_words.specs.declared.access.AccessLevel.{AccessLevel}
-use Rattle.core_words.specs.declared.access.AccessLevel.TheVariants as level
 use Rattle.core_outcome.specs.declared.declared.Declared.{Declared}
 use Rattle.core_outcome.specs.declared.declared.Declared.TheVariants as declared
 use Rattle.core_outcome.specs.declared.outcome.OutcomeParts.{OutcomeParts}
@@ -23,7 +22,6 @@ use Rattle.cxx_tree.specs.declared.identifier.NameTree.{NameTree}
 use Rattle.cxx_type.specs.declared.basic.BasicType.{BasicType}
 use Rattle.cxx_type.specs.declared.basic.BasicType.TheVariants as basic
 use Rattle.cxx_type.specs.declared.runs.Layer.{Layer}
-use Rattle.cxx_type.specs.declared.whole.CxxType.{CxxType}
 use Rattle.program_tables.specs.declared.entity.ClassText.{ClassText}
 use Rattle.program_tables.specs.declared.entity.Entity.{Entity}
 use Rattle.program_tables.specs.declared.entity.EntityKind.{EntityKind}

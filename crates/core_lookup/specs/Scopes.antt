@@ -1,5 +1,5 @@
 -- Scopes around scopes, what each declares, and which blocks reach which classes ([basic.scope], P3289R1).
-use Rattle.std.specs.Prelude.{ℕ, zero, suc, ◌-◌, ◌≤◌, Bool, true, false, ◌&&◌, ◌||◌, not, if◌then◌else◌, nat_eq, nat_lt, List, [], ◌∷◌, Option, None, Some, slice_get}
+use Rattle.std.specs.Prelude.{ℕ, zero, suc, ◌-◌, Bool, true, false, ◌&&◌, ◌||◌, not, if◌then◌else◌, nat_eq, nat_lt, List, [], ◌∷◌, Option, None, Some, slice_get}
 use Rattle.cxx_base.specs.declared.name.Name.{Name}
 use Rattle.cxx_base.specs.declared.number.EntityNo.{EntityNo}
 use Rattle.cxx_base.specs.declared.number.PieceNo.{PieceNo}

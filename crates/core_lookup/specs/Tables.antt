@@ -1,6 +1,5 @@
 -- What lookup takes of a program: its entities, its scopes and its pieces. None of them says where anything stands in the text.
-use Rattle.std.specs.Prelude.{ℕ, zero, suc, Bool, true, false, ◌&&◌, ◌||◌, if◌then◌else◌, nat_eq, nat_lt, List, [], ◌∷◌, Option, None, Some, slice_get}
-use Rattle.cxx_base.specs.declared.name.Name.{Name}
+use Rattle.std.specs.Prelude.{ℕ, Bool, true, false, ◌&&◌, ◌||◌, nat_eq, nat_lt, List, Option, None, Some, slice_get}
 use Rattle.cxx_base.specs.declared.number.EntityNo.{EntityNo}
 use Rattle.cxx_base.specs.declared.number.PieceNo.{PieceNo}
 use Rattle.cxx_base.specs.declared.number.ScopeNo.{ScopeNo}

@@ -1,1 +1,4 @@
 mod Rows
+mod Refusals
+mod Parts
+mod Pointing

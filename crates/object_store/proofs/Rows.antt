@@ -1,13 +1,11 @@
 -- The definitions of objects, computed.
 use Rattle.std.proofs.Common.{ap}
-use Rattle.std.specs.Prelude.{◌≡◌, refl, ℕ, Bool, true, false, List, [], ◌∷◌, None, Some, Result, Ok, Err, ℤ, pos, negsuc}
+use Rattle.std.specs.Prelude.{◌≡◌, refl, ℕ, Bool, true, false, [], ◌∷◌, None, Some, Ok, ℤ, pos, negsuc}
 use Rattle.cxx_base.specs.declared.code.Code.TheVariants.{V2, V3, V4, V5, V6, V7, V11}
-use Rattle.cxx_base.specs.declared.operator.CompareOp.TheVariants.{Lt, Le, Eq, Ne}
+use Rattle.cxx_base.specs.declared.operator.CompareOp.TheVariants.{Lt, Eq, Ne}
 use Rattle.cxx_base.specs.declared.operator.IntKind.TheVariants as kind
 use Rattle.cxx_type.specs.declared.basic.BasicType.TheVariants as basic
 use Rattle.cxx_type.specs.declared.runs.Layer.TheVariants as layer
-use Rattle.core_pointer.specs.declared.origin.Literal.{Literal}
-use Rattle.core_pointer.specs.declared.origin.Origin.{Origin}
 use Rattle.core_pointer.specs.declared.origin.Origin.TheVariants as origin
 use Rattle.core_pointer.specs.declared.path.PathStep.{PathStep}
 use Rattle.core_pointer.specs.declared.path.PathStep.TheVariants.{Base, Member, Element}
@@ -20,47 +18,47 @@ use Rattle.core_value.specs.declared.scalar.Scalar.{Scalar}
 use Rattle.core_value.specs.declared.scalar.Scalar.TheVariants as scalar
 use Rattle.core_value.specs.declared.value.Value.{Value}
 use Rattle.core_value.specs.declared.value.Value.TheVariants as value
-use Rattle.object_store.specs.Trees.{State, NotBegun, Unset, Has, Ended, Marks, Tree, Leaf, Array, Trees, end_tree, more_tree}
+use Rattle.object_store.specs.Trees.{State, NotBegun, Unset, Has, Ended, Marks, Tree, Leaf, Array, end_tree, more_tree}
 use Rattle.object_store.specs.Objects.{Form, Object, form, form_under}
 use Rattle.object_store.specs.Access.{refused, read_at, written, ended_at, sealed_at, begun_at}
 use Rattle.object_store.specs.Pointers.{compared, move_in_array, moved}
 
-abbrev Fields : Type 0
+abbrev pub Fields : Type 0
 Fields = Shape-F DirectBase Class DataMember Shape
 
 -- int[n]
-abbrev ints_fields : ℕ → Fields
+abbrev pub ints_fields : ℕ → Fields
 ints_fields n = record { of = record { basic = basic.Int kind.Int; is_const = false; layers = layer.Array n ∷ [] }; class = None; scalars = n; leaves = n }
 
-abbrev ints : ℕ → Shape
+abbrev pub ints : ℕ → Shape
 ints n = roll-Shape (ints_fields n)
 
-abbrev int : Shape
+abbrev pub int : Shape
 int = roll-Shape (record { of = record { basic = basic.Int kind.Int; is_const = false; layers = [] }; class = None; scalars = 1; leaves = 1 })
 
-abbrev unsealed : Bool → Marks
+abbrev pub unsealed : Bool → Marks
 unsealed is_const = record { is_const = is_const; is_sealed = false }
 
-abbrev closed : Bool → Marks
+abbrev pub closed : Bool → Marks
 closed is_const = record { is_const = is_const; is_sealed = true }
 
-abbrev one : Scalar
+abbrev pub one : Scalar
 one = scalar.Number (pos 1)
 
-abbrev local : ℕ → Shape → Tree → Object
+abbrev pub local : ℕ → Shape → Tree → Object
 local n s t = record { origin = origin.Local n; shape = s; tree = t }
 
 -- int a[2] of which the first element has the value 1
-abbrev pair : Object
+abbrev pub pair : Object
 pair = local 0 (ints 2) (Array (unsealed false) (more_tree (Leaf (unsealed false) true (Has one)) (more_tree (Leaf (unsealed false) true Unset) end_tree)))
 
-abbrev element : ℕ → Bool → Pointer
+abbrev pub element : ℕ → Bool → Pointer
 element i past = record { origin = origin.Local 0; path = Element i ∷ []; past = past }
 
-abbrev whole : ℕ → Bool → Pointer
+abbrev pub whole : ℕ → Bool → Pointer
 whole n past = record { origin = origin.Local n; path = []; past = past }
 
-abbrev null : Pointer
+abbrev pub null : Pointer
 null = record { origin = origin.Null; path = []; past = false }
 
 -- Reads
@@ -85,7 +83,7 @@ reads_a_foreign_one = refl
 
 -- Const
 
-abbrev constant : Marks → State → Object
+abbrev pub constant : Marks → State → Object
 constant m x = local 0 int (Leaf m true x)
 
 writes_before_it_is_sealed : written (constant (unsealed true) Unset ∷ []) (whole 0 false) (value.Scalar one) ≡ Ok (constant (unsealed true) (Has one) ∷ [])
@@ -126,7 +124,7 @@ an_ended_one_does_not_begin_again = refl
 
 -- What is no scalar
 
-abbrev no_scalar : Value
+abbrev pub no_scalar : Value
 no_scalar = value.Object (record { shape = ints 2; scalars = one ∷ one ∷ [] })
 
 writes_no_whole : written (pair ∷ []) (whole 0 false) no_scalar ≡ refused V2
@@ -142,10 +140,10 @@ writes_no_scalar_to_another_evaluation = refl
 
 -- What an array is made of, and what comes of a move from an element of the array that an object is.
 
-abbrev form_by : Shape → Fields → Form
+abbrev pub form_by : Shape → Fields → Form
 form_by shape fields = form_under shape fields.of.layers
 
-form_of : (n : ℕ) → form (ints n) ≡ form_by (ints n) (ints_fields n)
+pub form_of : (n : ℕ) → form (ints n) ≡ form_by (ints n) (ints_fields n)
 form_of n = ap (form_by (ints n)) (out-roll-Shape (ints_fields n))
 
 moves : (p : Pointer) (by : ℤ) (i n : ℕ) → move_in_array p by [] i (Some (form (ints n))) ≡ move_in_array p by [] i (Some (form_by (ints n) (ints_fields n)))
@@ -202,7 +200,7 @@ past_an_end_is_not_compared = refl
 two_objects_have_no_order : compared Lt (whole 0 false) (whole 1 false) ≡ refused V11
 two_objects_have_no_order = refl
 
-abbrev part_of : PathStep → Pointer
+abbrev pub part_of : PathStep → Pointer
 part_of step = record { origin = origin.Local 0; path = step ∷ []; past = false }
 
 members_have_an_order : compared Lt (part_of (Member 0)) (part_of (Member 1)) ≡ Ok true
@@ -233,10 +231,10 @@ writes_no_byte = refl
 
 -- Static variables
 
-abbrev static : Object
+abbrev pub static : Object
 static = record { origin = origin.Static (record { 0 = 7 }); shape = int; tree = Leaf (closed true) true (Has one) }
 
-abbrev to_static : Pointer
+abbrev pub to_static : Pointer
 to_static = record { origin = origin.Static (record { 0 = 7 }); path = []; past = false }
 
 reads_a_static : read_at (static ∷ []) to_static ≡ Ok (value.Scalar one)
@@ -246,14 +244,14 @@ writes_no_static : written (static ∷ []) to_static (value.Scalar one) ≡ refu
 writes_no_static = refl
 
 -- one that is not constexpr is there for its shape alone
-abbrev hidden : Object
+abbrev pub hidden : Object
 hidden = record static { tree = Leaf (unsealed false) true NotBegun }
 
 reads_no_hidden_static : read_at (hidden ∷ []) to_static ≡ refused V7
 reads_no_hidden_static = refl
 
 -- the one that the piece at hand makes
-abbrev own : State → Object
+abbrev pub own : State → Object
 own x = record static { tree = Leaf (unsealed true) true x }
 
 reads_no_own_static_before_it_begins : read_at (own NotBegun ∷ []) to_static ≡ refused V4

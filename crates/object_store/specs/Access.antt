@@ -1,5 +1,5 @@
 -- Reads, writes and lifetimes, with the first refusal of each ([basic.life], [basic.indet], [dcl.type.cv], [expr.const]).
-use Rattle.std.specs.Prelude.{Bool, true, false, not, if◌then◌else◌, List, [], ◌∷◌, ◌++◌, Option, None, Some, Result, Ok, Err}
+use Rattle.std.specs.Prelude.{Bool, true, false, ◌&&◌, not, if◌then◌else◌, List, Option, None, Some, Result, Ok, Err}
 use Rattle.cxx_base.specs.declared.cause.TheConstants.{ONE}
 use Rattle.cxx_base.specs.declared.code.Code.{Code}
 use Rattle.cxx_base.specs.declared.code.Code.TheVariants.{V2, V3, V4, V5, V6, V7}
@@ -12,11 +12,16 @@ use Rattle.core_value.specs.declared.scalar.Scalar.{Scalar}
 use Rattle.core_value.specs.declared.value.Value.{Value}
 use Rattle.core_value.specs.declared.value.Value.TheVariants as value
 use Rattle.core_words.specs.declared.stop.Cause.{Cause}
-use Rattle.object_store.specs.Trees.{Has, Marks, Tree, Leaf, changed, begun, ended, sealed, has_values, is_closed_on, lives, subobject, values}
+use Rattle.object_store.specs.Trees.{Has, Tree, Leaf, begun, ended, sealed, has_values, holds_if, is_closed_on, lives, subobject, values}
 use Rattle.object_store.specs.Objects.{Object, changed_at, is_hidden, is_own, object_of, shape_at}
 
 abbrev pub refused : {A : Type 0} → Code → Result A Cause
 refused code = Err (record { code = code; detail = ONE })
+
+-- whether what stands at a way in an object lives
+abbrev lives_in : Option Object → List PathStep → Bool
+lives_in None path = false
+lives_in (Some o) path = holds_if lives (subobject o.tree path)
 
 -- What a pointer that is not null nor past the end points to: an object and the part of it at the way. A way that does not fit is outside.
 pub record Found : Type 0 where
@@ -98,13 +103,10 @@ written os p v = write_value os p v (found os p)
 abbrev pub begun_at : List Object → Pointer → List Object
 begun_at os p = changed_at begun p.origin p.path os
 
-abbrev end_found : List Object → Pointer → Result Found Cause → Result (List Object) Cause
-end_found os p (Err c) = refused V4
-end_found os p (Ok f) = if lives f.tree then Ok (changed_at ended p.origin p.path os) else refused V4
-
--- its lifetime ends, with that of all in it, unless it does not live
+-- Its lifetime ends, with that of all in it, unless it does not live: past its end nothing does. A string literal, which always lives, stays as it is.
 abbrev pub ended_at : List Object → Pointer → Result (List Object) Cause
-ended_at os p = end_found os p (found os p)
+ended_at os p =
+    if not p.past && lives_in (object_of os p.origin) p.path then Ok (changed_at ended p.origin p.path os) else refused V4
 
 -- its initialization has ended
 abbrev pub sealed_at : List Object → Pointer → List Object

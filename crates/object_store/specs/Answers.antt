@@ -9,7 +9,7 @@ use Rattle.core_words.specs.declared.stop.Cause.{Cause}
 use Rattle.core_words.specs.declared.stop.ReadStop.{ReadStop}
 use Rattle.core_words.specs.declared.stop.ReadStop.TheVariants.{Refused, Memory}
 use Rattle.object_store.specs.Trees as tree
-use Rattle.object_store.specs.Trees.{State, NotBegun, Unset, Has, Marks, Tree, Leaf, Trees, end_tree, more_tree, sealed}
+use Rattle.object_store.specs.Trees.{NotBegun, Unset, Has, Marks, Tree, Leaf, Trees, end_tree, more_tree, not_const, sealed}
 use Rattle.object_store.specs.Objects.{IsFresh, Object}
 
 -- a new object behind the others, of which nothing has begun
@@ -50,15 +50,16 @@ abbrev scalars : Value → List Scalar
 scalars (value.Scalar v) = v ∷ []
 scalars (value.Object x) = x.scalars
 
-abbrev brought : Option Value → Tree → Tree
-brought None t = t
+abbrev pub brought : Option Value → Tree → Tree
+brought None t = not_const t
 brought (Some v) t = sealed (filled t (scalars v)).tree
 
 abbrev is_known : Option Value → Bool
 is_known None = false
 is_known (Some v) = true
 
--- a static variable of an earlier piece behind the others: with its value const, and made; without one there for its shape alone
+-- An object that is not made here behind the others: with its value const, and its initialization has ended; without one there for its shape alone, so
+-- not const, whatever its shape says. Scalars that the value lacks have not begun, and those beyond are dropped.
 abbrev pub Brought : Shape → Origin → Option Value → List Object → List Object → Type 0
 Brought shape p v old new = (t : Tree) × IsFresh (is_known v) shape t × (new ≡ old ++ record { origin = p; shape = shape; tree = brought v t } ∷ [])
 

@@ -1,6 +1,5 @@
 -- The objects of an evaluation: those that it has made, and those of earlier pieces that it has come to.
 use Rattle.std.specs.Prelude.{◌≡◌, ◌⊎◌, ◌<◌, ℕ, zero, suc, ◌+◌, ◌/◌, Bool, true, false, ◌&&◌, ◌||◌, not, if◌then◌else◌, nat_eq, nat_lt, List, [], ◌∷◌, map, length, drop, Option, None, Some, slice_get, ℤ, pos, ◌-ℤ◌}
-use Rattle.cxx_base.specs.declared.number.EntityNo.{EntityNo}
 use Rattle.cxx_base.specs.declared.operator.IntKind.TheVariants as kind
 use Rattle.cxx_type.specs.declared.basic.BasicType.{BasicType}
 use Rattle.cxx_type.specs.declared.basic.BasicType.TheVariants as basic
@@ -16,10 +15,9 @@ use Rattle.core_shape.specs.declared.class.Class.{Class, out-Class}
 use Rattle.core_shape.specs.declared.class.Base.{Base, out-Base}
 use Rattle.core_shape.specs.declared.class.Member.{Member, out-Member}
 use Rattle.core_shape.specs.declared.shape.Shape.{Shape, out-Shape, roll-Shape}
-use Rattle.core_value.specs.declared.scalar.Scalar.{Scalar}
 use Rattle.core_value.specs.declared.scalar.Scalar.TheVariants as scalar
 use Rattle.object_store.specs.Trees as tree
-use Rattle.object_store.specs.Trees.{State, NotBegun, Has, Marks, Tree, Leaf, Trees, end_tree, more_tree}
+use Rattle.object_store.specs.Trees.{NotBegun, Has, Marks, Tree, Leaf, Trees, end_tree, more_tree}
 
 -- an object: where it comes from, of what shape it is, and how it stands
 pub record Object : Type 0 where
@@ -63,10 +61,10 @@ abbrev pub element_shape : Shape → ℕ → Shape
 element_shape shape n = let s = out-Shape shape in
     roll-Shape (record s { of = element_type s.of; scalars = s.scalars / n; leaves = s.leaves / n })
 
-abbrev base_shape : Base → Shape
+abbrev pub base_shape : Base → Shape
 base_shape b = (out-Base b).shape
 
-abbrev member_shape : Member → Shape
+abbrev pub member_shape : Member → Shape
 member_shape m = (out-Member m).shape
 
 -- a scalar, the bases and the data members of a class, or so many elements
@@ -78,7 +76,7 @@ pub data Form : Type 0 where
 abbrev long_shape : Shape
 long_shape = roll-Shape (record { of = record { basic = basic.Int kind.Long; is_const = false; layers = [] }; class = None; scalars = 1; leaves = 1 })
 
-abbrev class_form : BasicType → Option Class → Form
+abbrev pub class_form : BasicType → Option Class → Form
 class_form b (Some class) = IsClass (map base_shape (out-Class class).bases) (map member_shape (out-Class class).members)
 class_form basic.MemberOffset None = IsClass [] (long_shape ∷ long_shape ∷ [])
 class_form b None = IsScalar
@@ -110,7 +108,7 @@ shape_at shape path = shape_go (Some shape) path
 
 -- Fresh objects
 
-abbrev fresh_marks : Bool → Marks
+abbrev pub fresh_marks : Bool → Marks
 fresh_marks is_const = record { is_const = is_const; is_sealed = false }
 
 abbrev pub trees_of : Trees → ℕ

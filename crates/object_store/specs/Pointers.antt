@@ -1,5 +1,5 @@
 -- Moves and comparisons of pointers ([expr.add], [expr.rel], [expr.eq]).
-use Rattle.std.specs.Prelude.{ℕ, zero, suc, ◌+◌, ◌-◌, Bool, true, false, ◌&&◌, ◌||◌, not, if◌then◌else◌, nat_eq, nat_lt, List, [], ◌∷◌, ◌++◌, Option, None, Some, Result, Ok, Err, ℤ, pos, negsuc, ◌+ℤ◌}
+use Rattle.std.specs.Prelude.{ℕ, zero, suc, ◌+◌, ◌-◌, Bool, true, false, ◌&&◌, ◌||◌, not, if◌then◌else◌, nat_eq, nat_lt, List, [], ◌∷◌, ◌++◌, Option, None, Some, Result, Ok, ℤ, pos, negsuc, ◌+ℤ◌}
 use Rattle.cxx_base.specs.declared.code.Code.TheVariants.{V2, V3, V7, V11}
 use Rattle.cxx_base.specs.declared.operator.CompareOp.{CompareOp}
 use Rattle.cxx_base.specs.declared.operator.CompareOp.TheVariants.{Lt, Le, Gt, Ge, Eq, Ne}
@@ -10,7 +10,7 @@ use Rattle.core_pointer.specs.declared.path.PathStep.TheVariants.{Base, Member, 
 use Rattle.core_pointer.specs.declared.pointer.Pointer.{Pointer}
 use Rattle.core_shape.specs.declared.shape.Shape.{Shape}
 use Rattle.core_words.specs.declared.stop.Cause.{Cause}
-use Rattle.object_store.specs.Objects.{Form, IsScalar, IsClass, IsArray, Object, form, is_same, object_of, shape_at}
+use Rattle.object_store.specs.Objects.{Form, IsArray, Object, form, is_same, object_of, shape_at}
 use Rattle.object_store.specs.Access.{refused}
 
 -- A way is that of an element, or not: the way to its array, and the number.
@@ -141,11 +141,16 @@ path_order _ _ = None
 abbrev number : Pointer → ℕ → ℕ
 number p i = i + past_by p.past
 
--- within one array, if they are: an object that is no element is an array of one
-abbrev within_one : Pointer → Pointer → Ending → Ending → Option Order
-within_one p q NoElement NoElement = if same_path p.path q.path then Some (order_of (number p 0) (number q 0)) else None
-within_one p q (InArray front i) (InArray other j) = if same_path front other then Some (order_of (number p i) (number q j)) else None
-within_one p q _ _ = None
+abbrev numbers_within : Pointer → Pointer → Ending → Ending → Option (ℕ × ℕ)
+numbers_within p q NoElement NoElement = if same_path p.path q.path then Some (number p 0, number q 0) else None
+numbers_within p q (InArray front i) (InArray other j) = if same_path front other then Some (number p i, number q j) else None
+numbers_within p q _ _ = None
+
+-- The numbers of two pointers that point into one array, where they do: an object that is no element is an array of one. A difference of pointers asks
+-- the same.
+abbrev pub within_one_array : Pointer → Pointer → Option (ℕ × ℕ)
+within_one_array p q =
+    if not (is_null p.origin) && is_same p.origin q.origin then numbers_within p q (ending p.path) (ending q.path) else None
 
 abbrev is_literal : Origin → Bool
 is_literal (origin.Literal l) = true
@@ -172,14 +177,12 @@ apart Eq p q = apart_equal Eq p q
 apart Ne p q = apart_equal Ne p q
 apart op p q = apart_ordered op p q
 
-abbrev near : CompareOp → Pointer → Pointer → Option Order → Result Bool Cause
-near op p q (Some o) = Ok (holds op o)
+abbrev near : CompareOp → Pointer → Pointer → Option (ℕ × ℕ) → Result Bool Cause
+near op p q (Some n) = Ok (holds op (order_of n.0 n.1))
 near op p q None = apart op p q
 
 -- What comes of a comparison: the first rule that fits decides. Two nulls are equal; two pointers within one array compare by their numbers, so
 -- equal ones are equal.
 abbrev pub compared : CompareOp → Pointer → Pointer → Result Bool Cause
 compared op p q =
-    if is_null p.origin && is_null q.origin then Ok (holds op Same)
-    else if is_same p.origin q.origin then near op p q (within_one p q (ending p.path) (ending q.path))
-    else apart op p q
+    if is_null p.origin && is_null q.origin then Ok (holds op Same) else near op p q (within_one_array p q)

@@ -84,7 +84,7 @@ marks (Array m es) = m
 abbrev pub is_closed : Tree → Bool
 is_closed t = (marks t).is_const && (marks t).is_sealed
 
-abbrev holds_if : (Tree → Bool) → Option Tree → Bool
+abbrev pub holds_if : (Tree → Bool) → Option Tree → Bool
 holds_if f None = false
 holds_if f (Some t) = f t
 
@@ -156,6 +156,12 @@ abbrev pub sealed : Tree → Tree
 sealed (Leaf m s x) = Leaf (record m { is_sealed = true }) s x
 sealed (Class m bs ms) = Class (record m { is_sealed = true }) bs ms
 sealed (Array m es) = Array (record m { is_sealed = true }) es
+
+-- not const, whatever its shape says; its parts are as they were
+abbrev pub not_const : Tree → Tree
+not_const (Leaf m s x) = Leaf (record m { is_const = false }) s x
+not_const (Class m bs ms) = Class (record m { is_const = false }) bs ms
+not_const (Array m es) = Array (record m { is_const = false }) es
 
 -- the values of its scalars, in order
 abbrev mutual

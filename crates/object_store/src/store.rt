@@ -35,23 +35,27 @@ pub trait Store {
         ensures ok { OnOk result (Created of.now object is_const (objects self.old) (objects self.new)) }
         ensures err { OnErr result (objects self.new ≡ objects self.old) };
 
-    /// Takes in a static variable of an earlier piece: a constexpr one with its value, which is shared, as a const object whose initialization has
-    /// ended; another one for its shape alone. Without memory nothing changes.
+    /// Takes in an object that is not made here: with its value, which is shared, as a const object whose initialization has ended (a constexpr
+    /// static variable of an earlier piece, or a constexpr local that elaboration has settled); without one, another static variable for its
+    /// shape alone, which nobody reads or writes. The value is one of the shape: scalars that it lacks have not begun, and those beyond are
+    /// dropped. Without memory nothing changes.
     fn bring(&mut self, of: &Shape, object: Origin, value: Option<Value>) -> Result<(), Memory>
         requires fresh { object_of (objects self.old) object ≡ None }
         requires somewhere { object ≢ origin.Null }
         ensures ok { OnOk result (Brought of.now object value (objects self.old) (objects self.new)) }
         ensures err { OnErr result (objects self.new ≡ objects self.old) };
 
-    /// Begins the lifetime of a subobject and of all in it.
+    /// Begins the lifetime of a subobject and of all in it that has not begun. Where nothing fits nothing changes; whether the pointer is past
+    /// its end is not asked.
     fn begin(&mut self, at: &Pointer)
         ensures { objects self.new ≡ begun_at (objects self.old) at.now };
 
-    /// Ends the lifetime of a subobject and of all in it; `V4` exactly where it does not live, and then all is as before.
+    /// Ends the lifetime of a subobject and of all in it; `V4` exactly where it does not live, and then all is as before. A string literal stays
+    /// as it is.
     fn end(&mut self, at: &Pointer) -> Result<(), Cause>
         ensures { Answers result (ended_at (objects self.old) at.now) (objects self.old) (objects self.new) };
 
-    /// The initialization of a subobject has ended.
+    /// The initialization of a subobject has ended. Where nothing fits nothing changes; whether the pointer is past its end is not asked.
     fn seal(&mut self, at: &Pointer)
         ensures { objects self.new ≡ sealed_at (objects self.old) at.now };
 
